@@ -1,0 +1,4 @@
+pub mod Turned
+pub mod Keyed
+pub mod Sheet
+pub mod Any
