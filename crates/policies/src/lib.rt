@@ -1,0 +1,4 @@
+// Who works a batch out: the table of stations, and the policies that seat committees of them.
+pub mod table;
+#[cfg(test)]
+mod tests;
