@@ -1,4 +1,7 @@
 // The smallest tables and committees, worked out by hand.
+use super::policy::Policy;
+use super::rotating::Rotating;
+use super::rotating::RotatingPolicy;
 use super::table::Locked;
 use super::table::OpenTable;
 use base::fault::Fault;
@@ -16,20 +19,24 @@ fn correct(n: u32) -> Result<OpenTable, (OpenTable, Fault)> {
     Ok(table)
 }
 
-fn refusal(r: Result<OpenTable, (OpenTable, Fault)>) -> Option<Refusal> {
+fn locked(n: u32, t: u32) -> Result<Locked, (OpenTable, Fault)> {
+    correct(n)?.lock(t)
+}
+
+fn refusal<T: Drop>(r: Result<T, (OpenTable, Fault)>) -> Option<Refusal> {
     match r {
         Ok(_) => None,
         Err(back) => Some(back.1.refusal),
     }
 }
 
-fn lock_refusal(n: u32, t: u32) -> Option<Refusal> {
-    match correct(n) {
-        Ok(table) => match table.lock(t) {
-            Ok(_) => None,
-            Err(back) => Some(back.1.refusal),
+fn rotating(n: u32, t: u32) -> Result<Rotating, Refusal> {
+    match locked(n, t) {
+        Ok(table) => match Rotating::build(&table) {
+            Ok(policy) => Ok(policy),
+            Err(fault) => Err(fault.refusal),
         },
-        Err(back) => Some(back.1.refusal),
+        Err(back) => Err(back.1.refusal),
     }
 }
 
@@ -47,6 +54,18 @@ fn marks_are_zero_or_one() -> Result<(), Fail> {
 
 #[test]
 fn twice_the_faulty_and_one() -> Result<(), Fail> {
-    check_eq(lock_refusal(4, 2), Some(Refusal::WrongThreshold))?;
-    check_eq(lock_refusal(3, 1), None)
+    check_eq(refusal(locked(4, 2)), Some(Refusal::WrongThreshold))?;
+    check_eq(refusal(locked(3, 1)), None)
+}
+
+#[test]
+fn rotating_wants_room() -> Result<(), Fail> {
+    check_eq(rotating(6, 2).err(), Some(Refusal::TooFewForPolicy))?;
+    check_eq(rotating(7, 2)?.count_turn(), 7)
+}
+
+#[test]
+fn rotating_goes_round() -> Result<(), Fail> {
+    let policy = rotating(3, 1)?;
+    check(policy.seated(2, 0) && !policy.seated(2, 1) && policy.seated(2, 2))
 }
