@@ -1,4 +1,6 @@
 // The smallest tables and committees, worked out by hand.
+use super::full::Full;
+use super::full::FullPolicy;
 use super::policy::Policy;
 use super::rotating::Rotating;
 use super::rotating::RotatingPolicy;
@@ -68,4 +70,18 @@ fn rotating_wants_room() -> Result<(), Fail> {
 fn rotating_goes_round() -> Result<(), Fail> {
     let policy = rotating(3, 1)?;
     check(policy.seated(2, 0) && !policy.seated(2, 1) && policy.seated(2, 2))
+}
+
+#[test]
+fn full_takes_every_pair() -> Result<(), Fail> {
+    let Ok(table) = locked(4, 1) else {
+        return Err(Fail::new("refused"));
+    };
+    let policy = Full::build(&table);
+    check_eq(policy.count_turn(), 6)?;
+    check_eq(policy.committee(3), 0b1001)?;
+    check_eq(policy.committee(6), 0b0011)?;
+    check(
+        policy.seated(3, 0) && !policy.seated(3, 1) && !policy.seated(3, 2) && policy.seated(3, 3),
+    )
 }
