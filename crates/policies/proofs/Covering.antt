@@ -11,6 +11,7 @@ use Rattle.std.proofs.shelf.Tests.{cases-lt, cases-eq, cases-bool, both-ways}
 use Rattle.policies.specs.Seats.{count, Covers, last-number}
 use Rattle.policies.specs.Masks.{masks, binomial, holds, Mask, mask-of, full-turn, full-seats}
 use Rattle.policies.proofs.Counts.{bit, committee-count, committee-seat}
+use Rattle.policies.proofs.Pascal.{binomial-small}
 use Rattle.policies.proofs.Masks.{holds-not, holds-high, mask-low, mask-high, sound, whole}
 
 pub binomial-pos : (n k : ℕ) → k ≤ n → 0 < binomial n k
@@ -19,10 +20,14 @@ binomial-pos zero (suc k) h = absurd (not-suc-le-zero h)
 binomial-pos (suc n) zero h = omega arith
 binomial-pos (suc n) (suc k) h = omega (arith, binomial-pos n k (omega arith))
 
-pub exactly : (n t c : ℕ) → t + 1 ≤ n → c ≤ last-number → count (full-seats n t c) n ≡ t + 1
-exactly n t c h l =
-    committee-count n c (holds (mask-of n t c)) l
-    ∙ sound n (t + 1) (c % full-turn n t) (mod-lt c (binomial-pos n (t + 1) h)) .1
+module _ (n t : ℕ) (wide : 2 * t + 1 ≤ n) where
+  pub turns : n ≤ 16 → (1 ≤ full-turn n t) × (full-turn n t ≤ 20000) × (20000 ≤ last-number)
+  turns small = (binomial-pos n (t + 1) (omega arith), binomial-small n (t + 1) (omega arith) (omega arith), omega arith)
+
+  pub exactly : (c : ℕ) → c ≤ last-number → count (full-seats n t c) n ≡ t + 1
+  exactly c l =
+      committee-count n c (holds (mask-of n t c)) l
+      ∙ sound n (t + 1) (c % full-turn n t) (mod-lt c (binomial-pos n (t + 1) (omega arith))) .1
 
 zero-mask : (n : ℕ) → Mask n 0 0
 zero-mask zero = (omega arith, refl)

@@ -24,10 +24,14 @@ module _ (n c : ℕ) (pos : 0 < n) where
       let both = count-or (λ i. eqb ((c + k) % n) i) (λ i. some (λ j. eqb ((c + j) % n) i) k) n apart in
       omega arith
 
-pub exactly : (n t c : ℕ) → suc t ≤ n → c ≤ last-number → count (rotating-seats n t c) n ≡ t + 1
-exactly n t c h l =
-    let pos : 0 < n = omega arith in
-    omega (arith, committee-count n c (in-row n t c) l, row-count n c pos (suc t) h)
+module _ (n t : ℕ) (wide : rotating-turn t ≤ n) where
+  pub turns : n ≤ 16 → (1 ≤ rotating-turn t) × (rotating-turn t ≤ 20000) × (20000 ≤ last-number)
+  turns small = (omega arith, omega arith, omega arith)
+
+  pub exactly : (c : ℕ) → c ≤ last-number → count (rotating-seats n t c) n ≡ t + 1
+  exactly c l =
+      let pos : 0 < n = omega arith in
+      omega (arith, committee-count n c (in-row n t c) l, row-count n c pos (suc t) (omega arith))
 
 module _ (n t a turn : ℕ) (fits : turn ≤ n) where
   -- station q sits in at most t + 1 of the numbers in the row
