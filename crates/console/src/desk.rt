@@ -1,0 +1,258 @@
+// The state of a script, and what each command does to it.
+use super::reply::Reply;
+use super::words::Words;
+use super::words::hex_word;
+use super::words::statement;
+use base::book::Batch;
+use base::fault::Fault;
+use policies::any::AnyPolicy;
+use policies::any::AnyPolicyPolicy;
+use policies::full::Full;
+use policies::policy::Policy;
+use policies::rotating::Rotating;
+use policies::table::Locked;
+use policies::table::OpenTable;
+use rules::any::AnyRule;
+use rules::any::AnyRuleRule;
+use rules::clerk::clerk;
+use seals::any::AnySeal;
+use seals::any::AnySealSealing;
+use seals::keyed::Keyed;
+use seals::seal::Sealing;
+use seals::sheet::Sheet;
+use std::alloc::AllocError;
+use std::alloc::Global;
+use std::mem;
+
+// The one table of a script, in whichever state it is.
+#[derive(Drop)]
+enum Table {
+    Absent,
+    Open(OpenTable),
+    Fixed(Locked),
+}
+
+#[derive(Drop)]
+pub struct Desk {
+    heap: Global,
+    table: Table,
+    rule: Option<AnyRule>,
+    policy: Option<AnyPolicy>,
+    seal: Option<AnySeal>,
+    intake: Vec<Batch>,
+}
+
+impl Desk {
+    pub fn new(heap: Global) -> Desk {
+        Desk {
+            heap,
+            table: Table::Absent,
+            rule: None,
+            policy: None,
+            seal: None,
+            intake: Vec::new(heap),
+        }
+    }
+
+    // What a line is answered. A mistake and a refusal change nothing.
+    pub fn answer(&mut self, line: &[u8]) -> Result<Reply, AllocError> {
+        let mut words = Words::of(line);
+        let reply = match words.word() {
+            Some(b"table") => self.new_table(&words),
+            Some(b"add") => self.add(&mut words),
+            Some(b"lock") => self.lock(&mut words),
+            Some(b"rule") => self.choose_rule(&mut words),
+            Some(b"policy") => self.build_policy(&mut words),
+            Some(b"seal") => return self.choose_seal(&mut words),
+            Some(b"batch") => return self.bring(&mut words),
+            Some(b"clerk") => return self.book_alone(&words),
+            Some(b"seats") => self.seats(&mut words),
+            Some(b"tag") => self.tag(&mut words),
+            _ => Some(Reply::Mistake("unknown command")),
+        };
+        Ok(reply.unwrap_or(Reply::Mistake("wrong words")))
+    }
+
+    fn new_table(&mut self, words: &Words) -> Option<Reply> {
+        if !words.is_done() {
+            return None;
+        }
+        self.table = Table::Open(OpenTable::new());
+        Some(Reply::Done)
+    }
+
+    fn add(&mut self, words: &mut Words) -> Option<Reply> {
+        let mark = words.last_number()?;
+        // a mark beyond a byte is as unknown as 255
+        let mark = u8::try_from(mark).unwrap_or(255);
+        match mem::replace(&mut self.table, Table::Absent) {
+            Table::Open(table) => Some(self.added(table.add(mark))),
+            other => {
+                self.table = other;
+                Some(Reply::Mistake("no open table"))
+            }
+        }
+    }
+
+    fn added(&mut self, result: Result<OpenTable, (OpenTable, Fault)>) -> Reply {
+        match result {
+            Ok(table) => {
+                self.table = Table::Open(table);
+                Reply::Done
+            }
+            Err(refused) => self.handed_back(refused),
+        }
+    }
+
+    fn handed_back(&mut self, refused: (OpenTable, Fault)) -> Reply {
+        let (table, fault) = refused;
+        self.table = Table::Open(table);
+        Reply::Refused(fault)
+    }
+
+    fn lock(&mut self, words: &mut Words) -> Option<Reply> {
+        let t = words.last_number()?;
+        match mem::replace(&mut self.table, Table::Absent) {
+            Table::Open(table) => Some(self.locked(table.lock(t))),
+            other => {
+                self.table = other;
+                Some(Reply::Mistake("no open table"))
+            }
+        }
+    }
+
+    fn locked(&mut self, result: Result<Locked, (OpenTable, Fault)>) -> Reply {
+        match result {
+            Ok(table) => {
+                self.table = Table::Fixed(table);
+                Reply::Done
+            }
+            Err(refused) => self.handed_back(refused),
+        }
+    }
+
+    fn choose_rule(&mut self, words: &mut Words) -> Option<Reply> {
+        let rule = match words.last_word()? {
+            b"oil" => AnyRule::Oil,
+            b"levy" => AnyRule::Levy,
+            _ => return None,
+        };
+        self.rule = Some(rule);
+        Some(Reply::Done)
+    }
+
+    fn build_policy(&mut self, words: &mut Words) -> Option<Reply> {
+        let name = words.last_word()?;
+        let Table::Fixed(table) = &self.table else {
+            return match name {
+                b"rotating" | b"full" => Some(Reply::Mistake("no locked table")),
+                _ => None,
+            };
+        };
+        let built = match name {
+            b"rotating" => match Rotating::build(table) {
+                Ok(policy) => AnyPolicy::Rotating(policy),
+                Err(fault) => return Some(Reply::Refused(fault)),
+            },
+            b"full" => AnyPolicy::Full(Full::build(table)),
+            _ => return None,
+        };
+        self.policy = Some(built);
+        Some(Reply::Done)
+    }
+
+    fn choose_seal(&mut self, words: &mut Words) -> Result<Reply, AllocError> {
+        let kind = words.word();
+        let seal = match kind {
+            Some(b"keyed") => keyed(words),
+            Some(b"sheet") => sheet(self.heap, words)?,
+            _ => None,
+        };
+        match seal {
+            Some(seal) => {
+                self.seal = Some(seal);
+                Ok(Reply::Done)
+            }
+            None => Ok(Reply::Mistake("wrong words")),
+        }
+    }
+
+    fn bring(&mut self, words: &mut Words) -> Result<Reply, AllocError> {
+        match words.last_batch() {
+            Some(batch) => {
+                self.intake.push(batch)?;
+                Ok(Reply::Done)
+            }
+            None => Ok(Reply::Mistake("wrong words")),
+        }
+    }
+
+    fn book_alone(&self, words: &Words) -> Result<Reply, AllocError> {
+        if !words.is_done() {
+            return Ok(Reply::Mistake("wrong words"));
+        }
+        match self.rule {
+            Some(rule) => Ok(Reply::Book(clerk(self.heap, &rule, &self.intake)?)),
+            None => Ok(Reply::Mistake("no rule")),
+        }
+    }
+
+    fn seats(&self, words: &mut Words) -> Option<Reply> {
+        let c = words.last_number()?;
+        let Some(policy) = self.policy else {
+            return Some(Reply::Mistake("no policy"));
+        };
+        let mut mask: u32 = 0;
+        for i in 0..16 {
+            if policy.seated(c, i) {
+                mask |= 1 << i;
+            }
+        }
+        Some(Reply::Seats(mask))
+    }
+
+    fn tag(&self, words: &mut Words) -> Option<Reply> {
+        let station = words.number()?;
+        let text = statement(words.last_word()?)?;
+        if station > 15 {
+            return None;
+        }
+        match &self.seal {
+            Some(seal) => Some(Reply::Tag(seal.seal(station as u8, &text))),
+            None => Some(Reply::Mistake("no seal")),
+        }
+    }
+}
+
+// Up to sixteen keys, missing ones 0.
+fn keyed(words: &mut Words) -> Option<AnySeal> {
+    let mut keys = [0; 16];
+    for key in keys.iter_mut() {
+        if words.is_done() {
+            break;
+        }
+        *key = hex_word(words.word()?)?;
+    }
+    if !words.is_done() {
+        return None;
+    }
+    Some(AnySeal::ByKeys(Keyed { keys }))
+}
+
+// Up to 4,096 words.
+fn sheet(heap: Global, words: &mut Words) -> Result<Option<AnySeal>, AllocError> {
+    let mut sheet = Vec::new(heap);
+    for _ in 0..4096 {
+        let Some(text) = words.word() else {
+            break;
+        };
+        let Some(word) = hex_word(text) else {
+            return Ok(None);
+        };
+        sheet.push(word)?;
+    }
+    if !words.is_done() {
+        return Ok(None);
+    }
+    Ok(Some(AnySeal::BySheet(Sheet { words: sheet })))
+}

@@ -1,0 +1,87 @@
+// What a command is answered.
+use base::book::Entry;
+use base::fault::Fault;
+use base::refusal::Refusal;
+use std::fmt;
+
+#[derive(Drop)]
+pub enum Reply {
+    Done,
+    // the clerk's book, which is printed in front of the answer
+    Book(Vec<Entry>),
+    // the stations of a committee, bit i for station i
+    Seats(u32),
+    Tag(u64),
+    Refused(Fault),
+    Mistake(&'static str),
+}
+
+pub impl fmt::Display for Reply as ReplyDisplay {
+    fn fmt<W: fmt::Write>(&self, f: &mut fmt::Formatter<W>) -> fmt::Result {
+        match self {
+            Reply::Done => f.write_str("ok"),
+            Reply::Book(entries) => {
+                let count = entries.len();
+                write!(f, "ok {count}")
+            }
+            Reply::Seats(mask) => show_seats(*mask, f),
+            Reply::Tag(tag) => write!(f, "ok {tag:016x}"),
+            Reply::Refused(fault) => show_fault(*fault, f),
+            Reply::Mistake(reason) => write!(f, "error ({reason})"),
+        }
+    }
+}
+
+fn show_seats<W: fmt::Write>(mask: u32, f: &mut fmt::Formatter<W>) -> fmt::Result {
+    f.write_str("ok")?;
+    for i in 0..32u32 {
+        if (mask >> i) & 1 == 1 {
+            write!(f, " {i}")?;
+        }
+    }
+    Ok(())
+}
+
+fn show_fault<W: fmt::Write>(fault: Fault, f: &mut fmt::Formatter<W>) -> fmt::Result {
+    let number = fault.refusal.number();
+    let layer = fault.layer.number();
+    let place = fault.place;
+    let words = words_of(fault.refusal);
+    write!(f, "refused {number} layer {layer} place {place} ({words})")
+}
+
+// For people; programs read the number.
+fn words_of(refusal: Refusal) -> &'static str {
+    match refusal {
+        Refusal::TableFull => "sixteen stations stand already",
+        Refusal::UnknownMark => "a mark is 0 or 1",
+        Refusal::WrongThreshold => "t is 1 to 7 and n at least 2t + 1",
+        Refusal::TooManyFaulty => "more than t stations are faulty",
+        Refusal::TooFewForPolicy => "too few stations for this policy",
+        Refusal::OutOfRange => "policy and table differ, or batches or slots out of range",
+        Refusal::WrongLength => "a buffer has the wrong length",
+        Refusal::NoStation => "no such station",
+        Refusal::FaultyStation => "the station is faulty",
+        Refusal::AtWork => "the station is at work",
+        Refusal::IntakeUsedUp => "the intake is used up",
+        Refusal::UnlawfulBatch => "the batch is unlawful",
+        Refusal::PoolFull => "fewer than three free slots",
+        Refusal::Idle => "the station is idle",
+        Refusal::NoFrame => "no such frame",
+        Refusal::Malformed => "the frame is malformed",
+        Refusal::EarlierBatch => "the frame is of an earlier batch",
+        Refusal::LaterBatch => "the frame is of a later batch",
+        Refusal::SenderTag => "the sender's tag is wrong",
+        Refusal::VoteHeld => "a vote of the sender is held already",
+        Refusal::PairTag => "a pair is wrong",
+        Refusal::WronglySent => "not the sender's to send",
+        Refusal::NumberPassed => "the committee number is passed",
+        Refusal::NumberAhead => "the committee number is too far ahead",
+        Refusal::NotMember => "the station is not a member",
+        Refusal::LastNumber => "the last committee number is reached",
+        Refusal::Forged => "forged",
+        Refusal::BadLine => "a bad line",
+        Refusal::NotBooked => "the entry is not booked",
+        Refusal::ShortBuffer => "the buffer is too short",
+    }
+}
