@@ -2,7 +2,9 @@ pub mod Basics
 pub mod Numbers
 pub mod Formed
 pub mod Frames
+pub mod Packed
 pub mod Lines
+pub mod Reading
 pub mod Certificates
 pub mod Codec
 pub mod Slots

@@ -76,10 +76,10 @@ bytes-unhex (x ∷ []) h = tt
 bytes-unhex (x ∷ (y ∷ zs)) h = let p = h .0 in let q = h .1 .0 in (omega arith, bytes-unhex zs (h .1 .1))
 
 -- a line's length, as it is tested
-sized-ok : (n : ℕ) → 2 ≤ n → n ≤ 208 → n % 2 ≡ 0 → (leb 2 n and leb n 208 and eqb (n % 2) 0) ≡ true
+pub sized-ok : (n : ℕ) → 2 ≤ n → n ≤ 208 → n % 2 ≡ 0 → (leb 2 n and leb n 208 and eqb (n % 2) 0) ≡ true
 sized-ok n p q r = grind (arith, tells)
 
-sized-says : (n : ℕ) → (leb 2 n and leb n 208 and eqb (n % 2) 0) ≡ true → (2 ≤ n) × (n ≤ 208) × (n % 2 ≡ 0)
+pub sized-says : (n : ℕ) → (leb 2 n and leb n 208 and eqb (n % 2) 0) ≡ true → (2 ≤ n) × (n ≤ 208) × (n % 2 ≡ 0)
 sized-says n e = (grind (arith, tells), grind (arith, tells), grind (arith, tells))
 
 -- what `line-fault l ≡ None` says

@@ -1,4 +1,5 @@
 pub mod Bytes
 pub mod Frames
 pub mod Slots
+pub mod Packed
 pub mod Certificates

@@ -1,2 +1,4 @@
 // What stations send each other: lines, frames and the slots of a pool.
+pub mod bytes;
+pub mod line;
 pub mod slot;

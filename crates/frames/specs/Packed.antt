@@ -1,0 +1,35 @@
+-- The bytes of a frame in a place of 104, and what comes of reading and writing a line.
+use Prim.Native.Nat.{ℕ, _-_, min}
+use mathlib.Core.List.{List, _++_}
+use mathlib.Core.Bool.{cond}
+use lib.ListN.{length, getD, take, drop, replicate}
+use lib.Dec.{ltb, leb}
+use Rattle.std.specs.declared.option.Option.the-variants.{Some, None}
+use Rattle.std.specs.declared.result.Result.{Result}
+use Rattle.std.specs.declared.result.Result.the-variants.{Ok, Err}
+use Rattle.base.specs.declared.fault.Fault.{Fault}
+use Rattle.base.specs.declared.refusal.Refusal.the-variants.{BadLine, ShortBuffer}
+use Rattle.base.specs.Refusals.{fault-at}
+use Rattle.frames.specs.declared.bytes.FrameBytes.{FrameBytes}
+use Rattle.frames.specs.Frames.{nibble, line-fault, unhex, hex}
+
+-- a frame's bytes, with zeros behind
+abbrev pub packed : List ℕ → FrameBytes
+packed bs = record { len = length bs; bytes = bs ++ replicate (104 - length bs) 0 }
+
+abbrev pub unpacked : FrameBytes → List ℕ
+unpacked p = take (min (p .len) 104) (p .bytes)
+
+-- what reading the digit at a place gives
+abbrev pub digit-read : List ℕ → ℕ → Result ℕ Fault
+digit-read l place = let v : ℕ = nibble (getD l place 0) in cond (ltb v 16) (Ok v) (Err (fault-at BadLine place))
+
+-- what reading a line gives
+unfoldable pub line-read : List ℕ → Result FrameBytes Fault
+line-read l = elim (line-fault l) [ None ↦ Ok (packed (unhex l)) | Some place ↦ Err (fault-at BadLine place) ]
+
+-- a buffer after some bytes were written into it as a line, and the answer: the line's length
+unfoldable pub line-written : List ℕ → List ℕ → List ℕ × Result ℕ Fault
+line-written bs buffer =
+    let line : List ℕ = hex bs in
+    cond (leb (length line) (length buffer)) (line ++ drop (length line) buffer, Ok (length line)) (buffer, Err (fault-at ShortBuffer 0))
