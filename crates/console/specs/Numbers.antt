@@ -1,5 +1,5 @@
 -- Numbers as they are written in a script.
-use mathlib.Core.Bool.{Bool, true, false, cond, _&&_}
+use mathlib.Core.Bool.{Bool, true, cond, _&&_}
 use mathlib.Core.List.{List, [], _∷_}
 use Prim.Native.Nat.{ℕ, _+_, _-_, _*_}
 use lib.Dec.{leb}
@@ -12,11 +12,15 @@ abbrev pub all-digits : List ℕ → Bool
 all-digits [] = true
 all-digits (x ∷ xs) = (leb 48 x && leb x 57) && all-digits xs
 
--- what digits add to a number in front of them
-abbrev pub value-from : ℕ → List ℕ → ℕ
-value-from v [] = v
-value-from v (x ∷ xs) = value-from (v * 10 + (x - 48)) xs
+-- the value of digits with the number v in front of them
+abbrev pub value-behind : ℕ → List ℕ → ℕ
+value-behind v [] = v
+value-behind v (x ∷ xs) = value-behind (v * 10 + (x - 48)) xs
 
--- the number that some digits stand for; there has to be one, and the number is of 32 bits
+-- that value, if these are digits and it is of 32 bits
+abbrev pub read-behind : ℕ → List ℕ → Option ℕ
+read-behind v w = cond (all-digits w && leb (value-behind v w) 4294967295) (Some (value-behind v w)) None
+
+-- the number that a word stands for
 abbrev pub number-of : List ℕ → Option ℕ
-number-of w = cond (leb 1 (length w) && (all-digits w && leb (value-from 0 w) 4294967295)) (Some (value-from 0 w)) None
+number-of w = cond (leb 1 (length w)) (read-behind 0 w) None

@@ -10,6 +10,7 @@ use reply::ReplyDisplay;
 use std::io;
 use std::io::BufWriter;
 use std::io::Read;
+use std::io::Stdin;
 use std::io::Stdout;
 use std::io::Write;
 
@@ -70,7 +71,12 @@ fn answer(desk: &mut Desk, line: &Line, out: &mut BufWriter<Stdout>) -> io::Resu
     writeln!(out, " -> {reply}")
 }
 
-fn feed(desk: &mut Desk, line: &mut Line, bytes: &[u8], out: &mut BufWriter<Stdout>) -> io::Result<()> {
+fn feed(
+    desk: &mut Desk,
+    line: &mut Line,
+    bytes: &[u8],
+    out: &mut BufWriter<Stdout>,
+) -> io::Result<()> {
     for byte in bytes {
         if *byte == b'\n' {
             answer(desk, line, out)?;
@@ -82,21 +88,33 @@ fn feed(desk: &mut Desk, line: &mut Line, bytes: &[u8], out: &mut BufWriter<Stdo
     Ok(())
 }
 
+// Answers the lines of the next piece of the input; false at its end.
+fn pump(
+    input: &mut Stdin,
+    piece: &mut [u8],
+    desk: &mut Desk,
+    line: &mut Line,
+    out: &mut BufWriter<Stdout>,
+) -> io::Result<bool> {
+    let count = input.read(piece)?;
+    feed(desk, line, &piece[0..count], out)?;
+    Ok(count > 0)
+}
+
 fn main(rt: LibcRuntime) -> io::Result<()> {
-    let mut desk = Desk::new(rt.alloc());
+    let heap = rt.alloc();
+    let mut desk = Desk::new(heap);
     let mut line = Line {
-        bytes: Vec::new(rt.alloc()),
+        bytes: Vec::new(heap),
         cut: false,
     };
     let mut out = BufWriter::new(rt.stdout());
     let mut input = rt.stdin();
-    let mut chunk = [0; 65536];
+    let mut piece = vec![in heap; 0; 65536]?;
     for _ in 0..u64::MAX {
-        let count = input.read(&mut chunk)?;
-        if count == 0 {
+        if !pump(&mut input, &mut piece, &mut desk, &mut line, &mut out)? {
             break;
         }
-        feed(&mut desk, &mut line, &chunk[0..count], &mut out)?;
     }
     answer(&mut desk, &line, &mut out)?;
     out.flush()

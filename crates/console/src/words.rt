@@ -1,7 +1,8 @@
 // The words of a command.
 ghost use mathlib.Core.Path.{_≡_};
-ghost use Prim.Native.Nat.{_<_};
-ghost use lib.ListN.{length};
+ghost use mathlib.Core.Bool.{not};
+ghost use lib.Dec.{eqb};
+ghost use Rattle.std.specs.shelf.Lists.{leading};
 ghost use Rattle.console.specs.Numbers.{number-of};
 use base::book::Batch;
 use frames::line::read_line;
@@ -15,7 +16,7 @@ pub struct Words<'a> {
 
 // Where the first blank stands, or the length where there is none.
 fn blank(text: &[u8]) -> usize
-    ensures { λ r. ⌜ (r < length (now (text .entry))) ⊎ (r ≡ length (now (text .entry))) ⌝ }
+    ensures { λ r. ⌜ r ≡ leading (λ b. not (eqb b 32)) (now (text .entry)) ⌝ }
 {
     for (i, b) in text.iter().enumerate() {
         if *b == b' ' {
@@ -93,11 +94,14 @@ pub fn number(word: &[u8]) -> Option<u32>
     }
     let mut value: u32 = 0;
     for b in word {
-        let digit = match *b {
-            d @ b'0'..=b'9' => d - b'0',
-            _ => return None,
-        };
-        value = value.checked_mul(10)?.checked_add(u32::from(digit))?;
+        if !b.is_ascii_digit() {
+            return None;
+        }
+        let next = value as u64 * 10 + (*b - b'0') as u64;
+        if next > 4_294_967_295 {
+            return None;
+        }
+        value = next as u32;
     }
     Some(value)
 }
@@ -108,9 +112,7 @@ pub fn hex_word(text: &[u8]) -> Option<u64> {
         return None;
     }
     let b = read_line(text).ok()?.bytes;
-    Some(u64::from_be_bytes([
-        b[0], b[1], b[2], b[3], b[4], b[5], b[6], b[7],
-    ]))
+    Some(u64::from_be_bytes([b[0], b[1], b[2], b[3], b[4], b[5], b[6], b[7]]))
 }
 
 // The statement of 48 hexadecimal digits.
