@@ -2,7 +2,8 @@
 ghost use mathlib.Core.Path.{_≡_};
 ghost use Prim.Native.Nat.{_≤_, _<_};
 ghost use Rattle.std.specs.Results.{mapped};
-ghost use Rattle.policies.specs.Seats.{sizes, last-number};
+ghost use Rattle.policies.specs.Seats.{last-number};
+ghost use Rattle.policies.specs.Sizes.{sizes};
 ghost use Rattle.policies.specs.Tables.{locked-plain};
 ghost use Rattle.policies.specs.Rotating.{in-row, rotating-seats, rotating-turn, rotating-of};
 use super::policy::LAST;
