@@ -1,8 +1,6 @@
-use mathlib.Core.Path.{_≡_}
-use Prim.Native.Nat.{_%_, _<_}
+use Prim.Native.Nat.{_<_}
 use native.Mathlib.Nat.{mod-lt}
 use native.Mathlib.Omega.{arith}
-use Rattle.policies.specs.Masks.{binomial}
 use Rattle.policies.proofs.Masks.{listed}
 use Rattle.policies.proofs.Covering.{binomial-pos}
 use Rattle.policies.proofs.full.numbered.Needs as need
