@@ -1,7 +1,7 @@
 -- How many numbers below a bound pass a test, and who sits in a committee.
 use mathlib.Core.Path.{_≡_, refl, sym, ap, _∙_, subst}
 use mathlib.Core.Bool.{Bool, true, false, cond, _||_, _&&_}
-use mathlib.Core.Logic.{_⊎_, inl, inr, ⊎-elim}
+use mathlib.Core.Logic.{⊎-elim}
 use Prim.Native.Nat.{ℕ, zero, suc, _+_, _*_, _/_, _%_, _<_, _≤_}
 use native.Mathlib.Nat.{div-add-mod, mul-le-mul-left, mul-suc, add-mul, not-suc-le-zero}
 use native.Mathlib.Omega.{arith}
@@ -56,7 +56,7 @@ pub count-all : (n : ℕ) → count (λ _. true) n ≡ n
 count-all zero = refl
 count-all (suc n) = omega (arith, count-all n)
 
-pub count-or-le : (f g : ℕ → Bool) (n : ℕ) → count (λ i. f i || g i) n ≤ count f n + count g n
+count-or-le : (f g : ℕ → Bool) (n : ℕ) → count (λ i. f i || g i) n ≤ count f n + count g n
 count-or-le f g zero = omega arith
 count-or-le f g (suc n) = omega (arith, bit-or (f n) (g n), count-or-le f g n)
 

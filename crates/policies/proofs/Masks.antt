@@ -1,21 +1,21 @@
 -- The list of masks: how long it is, what stands where, that it rises and that it is whole.
 use mathlib.Core.Path.{_≡_, refl, sym, ap, _∙_, subst}
-use mathlib.Core.Bool.{Bool, true, false, cond, _&&_}
-use mathlib.Core.Logic.{_⊎_, inl, inr, ⊎-elim}
-use mathlib.Core.List.{List, [], _∷_, _++_, map}
+use mathlib.Core.Bool.{true, false}
+use mathlib.Core.Logic.{⊎-elim}
+use mathlib.Core.List.{[], _∷_, map}
 use Prim.Native.Nat.{ℕ, zero, suc, _+_, _-_, _*_, _/_, _%_, _^_, _<_, _≤_}
-use native.Mathlib.Nat.{mod-lt, div-eq-of-lt, add-div-left, mul-add-div, mul-add-mod-self-right, zero-div, pow-suc, not-suc-le-zero, mul-suc}
+use native.Mathlib.Nat.{div-eq-of-lt, add-div-left, mul-add-div, mul-add-mod-self-right, pow-suc, not-suc-le-zero}
 use native.Mathlib.Omega.{arith}
-use lib.Dec.{eqb, leb, ltb}
+use lib.Dec.{eqb}
 use lib.ListN.{length, getD, length-append, length-map}
 use lib.Pow.{pow-pos, pow-add}
 use Rattle.std.proofs.shelf.Lists.{getD-append-left, getD-append-right, getD-map}
-use Rattle.std.proofs.shelf.Tests.{cases-lt, cases-eq, cases-bool, eqb-true, both-ways}
+use Rattle.std.proofs.shelf.Tests.{cases-lt}
 use Rattle.policies.specs.Seats.{count}
 use Rattle.policies.specs.Masks.{masks, binomial, holds, Mask, Listed}
 use Rattle.policies.proofs.Counts.{bit, count-same}
 
-pub length-masks : (n k : ℕ) → length (masks n k) ≡ binomial n k
+length-masks : (n k : ℕ) → length (masks n k) ≡ binomial n k
 length-masks zero zero = refl
 length-masks zero (suc k) = refl
 length-masks (suc zero) zero = refl
@@ -26,14 +26,14 @@ length-masks (suc n) (suc k) =
     let b = length-map (masks n k) f in
     omega (arith, length-masks n (suc k), length-masks n k)
 
-pub binomial-none : (n : ℕ) → binomial n zero ≡ 1
+binomial-none : (n : ℕ) → binomial n zero ≡ 1
 binomial-none zero = refl
 binomial-none (suc n) = refl
 
-pub low : (n k r : ℕ) → r < binomial n (suc k) → getD (masks (suc n) (suc k)) r 0 ≡ getD (masks n (suc k)) r 0
+low : (n k r : ℕ) → r < binomial n (suc k) → getD (masks (suc n) (suc k)) r 0 ≡ getD (masks n (suc k)) r 0
 low n k r h = getD-append-left (masks n (suc k)) _ 0 r (omega (arith, length-masks n (suc k)))
 
-pub high : (n k r : ℕ) → binomial n (suc k) ≤ r → r < binomial (suc n) (suc k) → getD (masks (suc n) (suc k)) r 0 ≡ 2 ^ n + getD (masks n k) (r - binomial n (suc k)) 0
+high : (n k r : ℕ) → binomial n (suc k) ≤ r → r < binomial (suc n) (suc k) → getD (masks (suc n) (suc k)) r 0 ≡ 2 ^ n + getD (masks n k) (r - binomial n (suc k)) 0
 high n k r h l =
     getD-append-right (masks n (suc k)) (map (λ x. 2 ^ n + x) (masks n k)) (binomial n (suc k)) r 0 (length-masks n (suc k)) h
     ∙ getD-map (λ x. 2 ^ n + x) (masks n k) (r - binomial n (suc k)) 0 0 (omega (arith, length-masks n k))

@@ -7,7 +7,8 @@ use Rattle.std.specs.declared.result.Result.the-variants.{Ok, Err}
 use Rattle.base.specs.declared.fault.Fault.{Fault}
 use Rattle.base.specs.declared.refusal.Refusal.the-variants.{TooFewForPolicy}
 use Rattle.base.specs.Refusals.{fault-at}
-use Rattle.policies.specs.Seats.{Sizes, sizes, committee-of}
+use Rattle.policies.specs.Seats.{committee-of}
+use Rattle.policies.specs.Sizes.{Sizes, sizes-of}
 use Rattle.policies.specs.Tables.{PlainLocked}
 
 -- some number below k passes
@@ -27,4 +28,4 @@ abbrev pub rotating-turn : ℕ → ℕ
 rotating-turn t = t * t + t + 1
 
 abbrev pub rotating-of : PlainLocked → Result Sizes Fault
-rotating-of l = cond (ltb (l .n) (rotating-turn (l .t))) (Err (fault-at TooFewForPolicy 0)) (Ok (sizes (l .n) (l .t)))
+rotating-of l = cond (ltb (l .n) (rotating-turn (l .t))) (Err (fault-at TooFewForPolicy 0)) (Ok (sizes-of l))

@@ -1,4 +1,4 @@
--- Sets of stations as tests, how many pass, and what the policies here share.
+-- Sets of stations as tests, how many pass, and when committees cover every set of faulty stations.
 use mathlib.Core.Path.{_≡_}
 use mathlib.Core.Bool.{Bool, true, cond, _&&_}
 use Prim.Native.Nat.{ℕ, zero, suc, _+_, _≤_, _<_}
@@ -26,11 +26,3 @@ last-number = 999999
 -- the committee of number c: those of the n stations that pass, and nobody above the highest number
 abbrev pub committee-of : ℕ → ℕ → (ℕ → Bool) → ℕ → Bool
 committee-of n c f i = leb c last-number && (ltb i n && f i)
-
--- what a policy is built of: how many stations there are, and how many may be faulty
-pub record Sizes : Type 0 where
-  pub n : ℕ
-  pub t : ℕ
-
-abbrev pub sizes : ℕ → ℕ → Sizes
-sizes n t = record { n = n; t = t }

@@ -1,5 +1,5 @@
 -- The tables in plain numbers, and what adding and locking answer.
-use mathlib.Core.Bool.{Bool, cond, _||_}
+use mathlib.Core.Bool.{cond, _||_}
 use mathlib.Core.List.{List}
 use Prim.Native.Nat.{ℕ, _+_, _*_}
 use lib.Dec.{leb, ltb}
@@ -13,7 +13,7 @@ use Rattle.policies.specs.declared.table.OpenTable.{OpenTable}
 use Rattle.policies.specs.declared.table.Locked.{Locked}
 use Rattle.policies.specs.Sound.{faulty}
 
--- an open table in plain numbers: the marks of stations 0 to n - 1 come first, zeros after them
+-- an open table in plain numbers; station i has mark i
 pub record PlainOpen : Type 0 where
   pub n : ℕ
   pub marks : List ℕ

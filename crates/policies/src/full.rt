@@ -1,8 +1,9 @@
 // The full policy seats every set of t + 1 stations in turn.
 ghost use mathlib.Core.Path.{_≡_};
-ghost use Prim.Native.Nat.{_+_, _*_, _≤_, _<_};
+ghost use Prim.Native.Nat.{_+_, _*_, _%_, _≤_, _<_};
 ghost use lib.ListN.{getD};
-ghost use Rattle.policies.specs.Seats.{sizes, last-number};
+ghost use Rattle.policies.specs.Seats.{last-number};
+ghost use Rattle.policies.specs.Sizes.{sizes, sizes-of};
 ghost use Rattle.policies.specs.Tables.{locked-plain};
 ghost use Rattle.policies.specs.Masks.{masks, binomial, holds, mask-of, full-turn, full-seats, Listed};
 use super::policy::LAST;
@@ -68,6 +69,17 @@ fn mask(n: u32, ones: u32, rank: u32) -> u32
     found
 }
 
+// Mask number c, counted round.
+fn numbered(n: u32, ones: u32, c: u32) -> u32
+    requires small { ⌜ n ≤ 16 ⌝ }
+    requires few { ⌜ ones ≤ 8 ⌝ }
+    requires room { ⌜ ones ≤ n ⌝ }
+    ensures value { λ r. ⌜ r ≡ getD (masks n ones) (c % binomial n ones) 0 ⌝ }
+    ensures listed { λ _. ⌜ Listed n ones (masks n ones) ⌝ }
+{
+    mask(n, ones, c % ways(n, ones))
+}
+
 fn has(mask: u32, i: u32) -> bool
     requires { ⌜ i < 32 ⌝ }
     ensures { λ r. ⌜ r ≡ holds mask i ⌝ }
@@ -78,7 +90,7 @@ fn has(mask: u32, i: u32) -> bool
 impl Full {
     // Every locked table has room for it.
     pub fn build(table: &Locked) -> Full
-        ensures { λ r. ⌜ sizes (r .n) (r .t) ≡ sizes (locked-plain (now (table .entry)) .n) (locked-plain (now (table .entry)) .t) ⌝ }
+        ensures { λ r. ⌜ sizes (r .n) (r .t) ≡ sizes-of (locked-plain (now (table .entry))) ⌝ }
     {
         Full {
             n: table.stations(),
@@ -91,8 +103,7 @@ impl Full {
         ensures value { λ r. ⌜ r ≡ mask-of (now (self .entry) .n) (now (self .entry) .t) c ⌝ }
         ensures listed { λ _. ⌜ Listed (now (self .entry) .n) (now (self .entry) .t + 1) (masks (now (self .entry) .n) (now (self .entry) .t + 1)) ⌝ }
     {
-        let ones = self.t + 1;
-        mask(self.n, ones, c % ways(self.n, ones))
+        numbered(self.n, self.t + 1, c)
     }
 }
 

@@ -2,7 +2,8 @@
 ghost use mathlib.Core.Path.{_≡_};
 ghost use Prim.Native.Nat.{_≤_, _<_};
 ghost use Rattle.std.specs.Results.{mapped};
-ghost use Rattle.policies.specs.Seats.{sizes, last-number};
+ghost use Rattle.policies.specs.Seats.{last-number};
+ghost use Rattle.policies.specs.Sizes.{sizes};
 ghost use Rattle.policies.specs.Tables.{locked-plain};
 ghost use Rattle.policies.specs.Rotating.{in-row, rotating-seats, rotating-turn, rotating-of};
 use super::policy::LAST;
@@ -11,6 +12,7 @@ use super::table::Locked;
 use base::fault::Fault;
 use base::refusal::Refusal;
 
+// A turn goes round the stations at most once, so that each sits in at most t + 1 of its committees.
 #[derive(Clone, Copy)]
 pub struct Rotating {
     n: u32,
@@ -35,6 +37,7 @@ fn in_row(n: u32, t: u32, c: u32, i: u32) -> bool
 }
 
 impl Rotating {
+    // Refused where a turn, t² + t + 1, is longer than the table.
     pub fn build(table: &Locked) -> Result<Rotating, Fault>
         ensures { λ r. ⌜ mapped (λ p. sizes (p .n) (p .t)) (λ e. e) r ≡ rotating-of (locked-plain (now (table .entry))) ⌝ }
     {
