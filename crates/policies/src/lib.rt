@@ -4,5 +4,3 @@ pub mod full;
 pub mod policy;
 pub mod rotating;
 pub mod table;
-#[cfg(test)]
-mod tests;
