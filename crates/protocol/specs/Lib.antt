@@ -1,0 +1,4 @@
+pub mod Law
+pub mod Steps
+pub mod Bounds
+pub mod Run

@@ -1,0 +1,2 @@
+// How stations agree on one book: the record that a station keeps, and the law over every list of calls.
+pub mod station;
