@@ -19,6 +19,7 @@ use Rattle.protocol.specs.declared.station.Station.{Station}
 use Rattle.protocol.specs.Law.{Terms, Call, History, opening, delivery, ringing, injection}
 use Rattle.protocol.specs.Steps.{World, no-batch, no-station, station-at, with-station, take-up, store, next-number, mark-taken, issue, propose, decide, join, reselect, differs, same-entry, own-entry, act, whole-call}
 use Rattle.protocol.specs.Bounds.{Bounded-station, Bounded}
+use Rattle.protocol.specs.Claims.{Stays-bounded}
 use Rattle.protocol.specs.Run.{New, Run, fresh, called, strayed}
 use Rattle.frames.proofs.Basics.{and-true}
 use Rattle.frames.proofs.Codec.{says-reselect}
@@ -170,3 +171,9 @@ module _ (d : Terms) (few : d .n ≤ 16) (idle : d .lawful no-batch ≡ false) (
   }
   run-bounded intake start new p q h w (called {h = h₀} {w = w₀} r c) = call-bounded intake c w₀ (run-bounded intake start new p q h₀ w₀ r)
   run-bounded intake start new p q h w (strayed {h = h₀} {w = w₀} r c other v x s a o) = run-bounded intake start new p q h₀ w₀ r
+
+pub stays-bounded : Stays-bounded
+stays-bounded d few idle intake = (
+  λ slots entries c w. call-bounded d few idle slots entries intake c w,
+  λ start new. run-bounded d few idle (length (start .pool)) (length (start .books)) intake start new refl refl,
+)

@@ -20,26 +20,26 @@ use Rattle.frames.specs.Slots.{frame-at}
 use Rattle.frames.specs.Frames.{_and_, hex, unhex, line-fault}
 use Rattle.protocol.specs.Law.{Terms, History, Correct, clerk, booked-by}
 use Rattle.protocol.specs.Steps.{World, station-at, no-entry, passing, written, in-range, fitting, read-call, write-call}
-use Rattle.protocol.specs.Run.{Lawful, New, Run}
+use Rattle.protocol.specs.Claims.{Reads-clerk, Wrote, Writes-line}
 use Rattle.frames.proofs.Basics.{and-true}
 use Rattle.frames.proofs.Numbers.{Bytes}
 use Rattle.frames.proofs.Lines.{unhex-hex, line-hex, hex-of-line}
 use Rattle.frames.proofs.Slots.{framed-short}
 use Rattle.protocol.proofs.Agreement.{run-state}
 
-pub passing-ok : {A : Type 0} (b : Bool) (why : Refusal) (go : Result A Fault) (x : A) → passing b why go ≡ Ok x → (b ≡ true) × (go ≡ Ok x)
+passing-ok : {A : Type 0} (b : Bool) (why : Refusal) (go : Result A Fault) (x : A) → passing b why go ≡ Ok x → (b ≡ true) × (go ≡ Ok x)
 passing-ok true why go x e = (refl, e)
 passing-ok false why go x e = absurd (let z : _≡_ {A = ℕ} 0 1 = cc in omega arith)
 
 -- an accepted Read
-pub record Read-out (d : Terms) (intake : List Batch) (i k : ℕ) (w : World) (e : Entry) : Type 0 where
+record Read-out (d : Terms) (intake : List Batch) (i k : ℕ) (w : World) (e : Entry) : Type 0 where
   pub range : in-range d ≡ true
   pub lengths : fitting d intake w ≡ true
   pub station : Correct d i
   pub counted : (1 ≤ k) × (k ≤ station-at w i .booked)
   pub entry-is : getD (w .books) (i * d .batches + k - 1) no-entry ≡ e
 
-pub read-out : (d : Terms) (intake : List Batch) (i k : ℕ) (w : World) (e : Entry) → read-call d intake i k w ≡ Ok e → Read-out d intake i k w e
+read-out : (d : Terms) (intake : List Batch) (i k : ℕ) (w : World) (e : Entry) → read-call d intake i k w ≡ Ok e → Read-out d intake i k w e
 unfolding read-call
 read-out d intake i k w e q =
     let a = passing-ok (in-range d) OutOfRange _ e q in
@@ -56,10 +56,8 @@ read-out d intake i k w e q =
       entry-is = cc (g .1);
     }
 
--- what Read answers after a run is the clerk's entry
-pub read-clerk : (d : Terms) → Lawful d → (intake : List Batch) (start : World) → New d start → (h : History) (w : World) → Run d intake start h w
-    → (i k : ℕ) (e : Entry) → read-call d intake i k w ≡ Ok e → (1 ≤ k) × (k ≤ booked-by i h) × (getD (clerk d 0 intake) (k - 1) no-entry ≡ e)
-read-clerk d law intake start new h w run i k e q =
+pub reads-clerk : Reads-clerk
+reads-clerk d law intake start new h w run i k e q =
     let r = read-out d intake i k w e q in
     let inv = run-state d intake law start new h w run (r .range) (r .lengths) in
     let booked = inv .counted i (r .station) .booked-is in
@@ -70,8 +68,7 @@ read-clerk d law intake start new h w run i k e q =
           ∙ ap (λ (f : ℕ). getD (w .books) f no-entry) (sym place) ∙ r .entry-is,
     )
 
--- a refused Write leaves the buffer as it was
-pub write-stays : (d : Terms) (intake : List Batch) (f : ℕ) (buffer : List ℕ) (w : World) (x : Fault)
+write-stays : (d : Terms) (intake : List Batch) (f : ℕ) (buffer : List ℕ) (w : World) (x : Fault)
     → write-call d intake f buffer w .1 ≡ Err x → write-call d intake f buffer w .0 ≡ buffer
 unfolding write-call
 write-stays d intake f buffer w x q = go _ q
@@ -80,17 +77,7 @@ write-stays d intake f buffer w x q = go _ q
     go (Ok n) e = absurd (let z : _≡_ {A = ℕ} 0 1 = cc in omega arith)
     go (Err y) e = refl
 
--- an accepted Write of a frame: n characters in front of the buffer are its line
-pub record Wrote (frame buffer : List ℕ) (n : ℕ) (out : List ℕ) : Type 0 where
-  pub size : length out ≡ length buffer
-  pub line-is : take n out ≡ hex frame
-  pub behind : drop n out ≡ drop n buffer
-  -- it reads back as the frame, and no other line does
-  pub passes : line-fault (take n out) ≡ None
-  pub reads : unhex (take n out) ≡ frame
-  pub only : (l : List ℕ) → line-fault l ≡ None → unhex l ≡ frame → l ≡ take n out
-
-pub wrote : (d : Terms) (intake : List Batch) (f : ℕ) (buffer : List ℕ) (w : World) (n : ℕ) → Bytes (frame-at (w .pool) f)
+wrote : (d : Terms) (intake : List Batch) (f : ℕ) (buffer : List ℕ) (w : World) (n : ℕ) → Bytes (frame-at (w .pool) f)
     → write-call d intake f buffer w .1 ≡ Ok n → Wrote (frame-at (w .pool) f) buffer n (write-call d intake f buffer w .0)
 unfolding write-call
 wrote d intake f buffer w n h q = go _ refl q
@@ -123,3 +110,6 @@ wrote d intake f buffer w n h q = go _ refl q
           reads = ap unhex front ∙ unhex-hex bs h;
           only = λ l t u. sym (hex-of-line l t) ∙ ap hex u ∙ sym front;
         }
+
+pub writes-line : Writes-line
+writes-line d intake f buffer w = (write-stays d intake f buffer w, wrote d intake f buffer w)

@@ -1,72 +1,23 @@
--- A hall of three stations: its terms are lawful, and one run of it is worked through.
-use Prim.Native.Nat.{ℕ, zero, suc, _+_, _-_, _*_, _/_, _%_, _^_, _<_, _≤_, min}
+-- The hall of three stations: its terms are lawful, and its run answers as said.
+use Prim.Native.Nat.{ℕ, zero, suc, _+_, _-_, _*_, _/_, _%_, _^_, _<_, _≤_}
 use mathlib.Core.Path.{_≡_, refl, sym, ap, _∙_}
 use mathlib.Core.Logic.{_⊎_, inl, inr}
-use mathlib.Core.List.{List, [], _∷_}
-use mathlib.Core.Bool.{Bool, true, false, cond}
+use mathlib.Core.Bool.{Bool, true, false, cond, _&&_}
 use native.Mathlib.Nat.{mod-lt, div-le-self}
 use native.Mathlib.Omega.{arith}
 use lib.ListN.{getD, replicate}
 use lib.Dec.{eqb, leb, lit<}
-use lib.Bits.{bitXor}
-use Rattle.std.specs.declared.result.Result.{Result}
-use Rattle.std.specs.declared.result.Result.the-variants.{Ok, Err}
-use Rattle.std.proofs.shelf.Tests.{cases-lt, leb-true, le-leb, eqb-true}
+use Rattle.std.proofs.shelf.Tests.{cases-lt, leb-true, le-leb, eqb-true, and-parts}
 use Rattle.std.proofs.shelf.Lists.{getD-past, getD-replicate}
 use Rattle.base.specs.declared.book.Batch.{Batch}
-use Rattle.base.specs.declared.fault.Fault.{Fault}
-use Rattle.base.specs.declared.refusal.Refusal.the-variants.{Idle}
-use Rattle.base.specs.Refusals.{fault-at}
-use Rattle.rules.specs.declared.rule.Outcome.{Outcome}
+use Rattle.rules.specs.Lawful.{lawful as is-lawful}
+use Rattle.rules.specs.Oil.{grams, oil-outcome}
 use Rattle.frames.specs.declared.slot.Slot.{Slot}
 use Rattle.frames.specs.Slots.{no-slot}
-use Rattle.frames.specs.Frames.{_and_, num8}
-use Rattle.protocol.specs.Law.{Terms, works, Call, Marks, opening, delivery, ringing}
-use Rattle.protocol.specs.Steps.{World, in-range, fitting, whole-call, no-station, no-entry, same-entry, backers, last-carry, issue, with-station, propose, decide, settle, own-entry, reselect, open-call, ring-call, mark-taken, take-proposal, meet-proposal, meet-decision, meet-reselect, meet, shows, deliver-call, forged, forgery, inject-call, next-number, announce, join, take-up, store, differs}
-use Rattle.protocol.specs.Run.{Of-32-bits, Lawful, New, Owes, size}
-use Rattle.frames.proofs.Basics.{and-true}
-use Rattle.protocol.proofs.Agreement.{holds}
-
--- the oil rule: whole kilograms are the amount, the grams left are carried on
-abbrev pub oil : ℕ → Batch → Outcome
-oil carry b =
-    let sum : ℕ = min carry 99999999 + b .oil in
-    record { amount = sum / 1000; figure = sum / 1000 * 10000 / b .fruit; carry = sum % 1000 }
-
-abbrev pub is-lawful : Batch → Bool
-is-lawful b = leb 1 (b .grower) and leb (b .grower) 9999999 and leb 1 (b .fruit) and leb (b .fruit) 30000 and leb (b .oil) 9000000
-
--- the rotating policy of three stations, one of which may be faulty: two neighbours sit in each committee
-abbrev pub rotating : ℕ → ℕ → Bool
-rotating c i = leb c 999999 and cond (eqb i (c % 3)) true (eqb i ((c + 1) % 3))
-
--- the keyed seal
-abbrev pub rotated : ℕ → ℕ
-rotated x = x * 2 ^ 13 % 2 ^ 64 + x / 2 ^ 51
-
-abbrev pub mix : ℕ → ℕ → ℕ → ℕ
-mix key h word = (rotated (bitXor h word) + key) % 2 ^ 64
-
-abbrev pub keyed : ℕ → List ℕ → ℕ
-keyed key s = mix key (mix key (mix key key (num8 s 0)) (num8 s 8)) (num8 s 16)
-
-abbrev pub three : ℕ → ℕ → Terms
-three batches slots = record {
-  n = 3;
-  t = 1;
-  faulty = λ i. eqb i 0;
-  policy-n = 3;
-  policy-t = 1;
-  turn = 3;
-  seats = rotating;
-  lawful = is-lawful;
-  rule = oil;
-  tag = λ i s. keyed (i * 1000003 + 17) s;
-  batches = batches;
-  slots = slots;
-}
-
--- Its terms are lawful
+use Rattle.protocol.specs.Law.{works}
+use Rattle.protocol.specs.Steps.{in-range, fitting, whole-call, same-entry, backers, last-carry, issue, with-station, propose, decide, settle, own-entry, reselect, open-call, ring-call, mark-taken, take-proposal, meet-proposal, meet-decision, meet-reselect, meet, shows, deliver-call, forged, forgery, inject-call, next-number, announce, join, take-up, store, differs}
+use Rattle.protocol.specs.Run.{Of-32-bits, Lawful, New, size}
+use Rattle.protocol.specs.Three.{rotating, three, made, Three-lawful, Three-run}
 
 -- committee c seats c mod 3 and the one behind it
 seats-two : (c r q : ℕ) → c ≤ 20000 → c % 3 ≡ r → (c + 1) % 3 ≡ q → (i : ℕ) → rotating c i ≡ cond (eqb i r) true (eqb i q)
@@ -110,20 +61,19 @@ covered s h a l = go (s 0) (s 1) (s 2) refl refl refl
     go true false true p q r = absurd (let x = rw (p, q, r) at h in omega (arith, x))
     go false true true p q r = absurd (let x = rw (p, q, r) at h in omega (arith, x))
 
-oil-fits : (carry : ℕ) (b : Batch) → is-lawful b ≡ true → (b .grower < 2 ^ 32) × Of-32-bits (oil carry b)
+oil-fits : (carry : ℕ) (b : Batch) → is-lawful b ≡ true → (b .grower < 2 ^ 32) × Of-32-bits (oil-outcome carry b)
 oil-fits carry b h =
-    let h₁ = and-true (leb 1 (b .grower)) (leb (b .grower) 9999999 and leb 1 (b .fruit) and leb (b .fruit) 30000 and leb (b .oil) 9000000) h in
-    let h₂ = and-true (leb (b .grower) 9999999) (leb 1 (b .fruit) and leb (b .fruit) 30000 and leb (b .oil) 9000000) (h₁ .1) in
-    let h₃ = and-true (leb 1 (b .fruit)) (leb (b .fruit) 30000 and leb (b .oil) 9000000) (h₂ .1) in
-    let h₄ = and-true (leb (b .fruit) 30000) (leb (b .oil) 9000000) (h₃ .1) in
+    let h₁ = and-parts (leb 1 (b .grower)) (leb (b .grower) 9999999 && (leb 1 (b .fruit) && (leb (b .fruit) 30000 && leb (b .oil) 9000000))) h in
+    let h₂ = and-parts (leb (b .grower) 9999999) (leb 1 (b .fruit) && (leb (b .fruit) 30000 && leb (b .oil) 9000000)) (h₁ .1) in
+    let h₃ = and-parts (leb 1 (b .fruit)) (leb (b .fruit) 30000 && leb (b .oil) 9000000) (h₂ .1) in
+    let h₄ = and-parts (leb (b .fruit) 30000) (leb (b .oil) 9000000) (h₃ .1) in
     let grower = leb-true (b .grower) 9999999 (h₂ .0) in
     let most = leb-true (b .oil) 9000000 (h₄ .1) in
-    let sum : ℕ = min carry 99999999 + b .oil in
-    let figure = div-le-self (sum / 1000 * 10000) (b .fruit) in
+    let figure = div-le-self (grams carry b / 1000 * 10000) (b .fruit) in
     (omega arith, (omega arith, omega arith, omega arith))
 
-pub three-lawful : (batches slots : ℕ) → Lawful (three batches slots)
-three-lawful batches slots = record {
+lawful-terms : (batches slots : ℕ) → Lawful (three batches slots)
+lawful-terms batches slots = record {
   some-fault = omega arith;
   majority = omega arith;
   few-stations = omega arith;
@@ -138,37 +88,16 @@ three-lawful batches slots = record {
   tags = λ i s _ _ _. mod-lt _ (lit< tt);
 }
 
-pub three-owes : (batches slots : ℕ) → Owes (three batches slots)
-three-owes batches slots = holds (three batches slots) (three-lawful batches slots)
-
--- One run: station 0 is faulty, and the two others book the batch
-
-abbrev play : List Batch → List Call → World → List (Result Marks Fault)
-play intake [] w = []
-play intake (c ∷ cs) w = whole-call (three 1 8) intake c w .1 ∷ play intake cs (whole-call (three 1 8) intake c w .0)
-
-abbrev calls : List Call
-calls = opening 1 ∷ opening 2 ∷ ringing 1 ∷ delivery 2 1 ∷ delivery 1 3 ∷ delivery 2 0 ∷ ringing 1 ∷ []
-
-abbrev start : World
-start = record { stations = replicate 16 no-station; pool = replicate 8 no-slot; books = replicate 3 no-entry }
-
-abbrev delivered : List Batch
-delivered = record { grower = 4711; fruit = 500; oil = 93400 } ∷ []
-
--- the run begins at a new hall, so the law holds of it
-pub start-new : New (three 1 8) start
-start-new = record { one-n = refl; one-t = refl; idle = refl; empty = λ f. empty f (cases-lt f 8) }
+starts-new : New (three 1 8) made
+starts-new = record { one-n = refl; one-t = refl; idle = refl; empty = λ f. empty f (cases-lt f 8) }
   where
     empty : (f : ℕ) → (f < 8) ⊎ (8 ≤ f) → getD (replicate 8 no-slot) f no-slot .len ≡ 0
     empty f (inl l) = ap (λ (s : Slot). s .len) (getD-replicate 8 f no-slot no-slot l)
     empty f (inr l) = ap (λ (s : Slot). s .len) (getD-past (replicate 8 no-slot) f no-slot l)
 
-abbrev answers : List (Result Marks Fault)
-answers =
-    Ok (false, true, false) ∷ Ok (false, false, false) ∷ Ok (true, false, false) ∷ Ok (true, true, false)
-    ∷ Ok (false, false, true) ∷ Ok (false, false, true) ∷ Err (fault-at Idle 0) ∷ []
+pub three-lawful : Three-lawful
+three-lawful = (lawful-terms, starts-new)
 
-pub worked-run : play delivered calls start ≡ answers
+pub three-run : Three-run
 unfolding works in-range fitting whole-call same-entry backers last-carry issue with-station propose decide settle own-entry reselect open-call ring-call mark-taken take-proposal meet-proposal meet-decision meet-reselect meet shows deliver-call forged forgery inject-call next-number announce join take-up store differs
-worked-run = refl
+three-run = refl

@@ -1,5 +1,9 @@
 -- What a hall owes over any list of calls. It is said of the calls, their answers and the buffers
 -- alone: nothing here looks into a station's record or repeats a step.
+--
+-- In a hall a table of stations, some of them faulty, books one intake of batches, each station into a book
+-- of its own. What stations send each other are frames in slots of one pool. What faulty stations send
+-- comes in from outside, by Inject.
 use Prim.Native.Nat.{ℕ, _+_, _-_, _*_, _<_, _≤_}
 use mathlib.Core.Path.{_≡_}
 use mathlib.Core.Logic.{_⊎_}
@@ -20,18 +24,21 @@ use Rattle.frames.specs.declared.slot.Slot.{Slot}
 use Rattle.frames.specs.Slots.{frame-at}
 use Rattle.frames.specs.Certificates.{Rising as Rising-below, Certifies as Certifies-by}
 
--- the terms that a hall is joined from, by their meanings
+-- the terms that a hall is joined from, by their meanings; stations are numbered from 0, batches from 1
 pub record Terms : Type 0 where
   -- the table: the number of stations, how many may be faulty, and which are
   pub n : ℕ
   pub t : ℕ
   pub faulty : ℕ → Bool
-  -- the policy: the n and t it is for, its turn, and whether a station sits in a numbered committee
+  -- the policy: the n and t it is for, its turn, and whether a station sits in a numbered committee; a
+  -- committee is the t + 1 stations that are to work a batch out while its number stands, and the turn is
+  -- how many committees in a row are sure to have one without faulty members
   pub policy-n : ℕ
   pub policy-t : ℕ
   pub turn : ℕ
   pub seats : ℕ → ℕ → Bool
-  -- the rule: which batches are lawful, and amount, figure and carry after of a batch, from a carry
+  -- the rule: which batches are lawful, and amount, figure and carry after of a batch, from a carry, which
+  -- is what the entry before hands on
   pub lawful : Batch → Bool
   pub rule : ℕ → Batch → Outcome
   -- the seal: the tag of a station on a statement
@@ -42,14 +49,16 @@ pub record Terms : Type 0 where
 
 -- Calls and what they leave
 
--- a call, by its words: a station, a frame by its number in the pool, a line
+-- A call, by its words. Open: the station takes the next batch up. Deliver: it is handed a frame, by its
+-- number in the pool. Ring: its time for this committee is out. Inject: a line from outside is to enter the pool.
 pub data Call : Type 0 where
   opening : ℕ → Call
   delivery : ℕ → ℕ → Call
   ringing : ℕ → Call
   injection : List ℕ → Call
 
--- the marks of an accepted call
+-- The marks of an accepted call. Reselected: the station left its committee for that of the next number.
+-- Proposed: it worked its batch out and said so in a frame. Decided: it booked the batch.
 abbrev pub Marks : Type 0
 Marks = Bool × Bool × Bool
 
@@ -126,7 +135,7 @@ opened-by i h = tally (opens i) h
 abbrev pub booked-by : ℕ → History → ℕ
 booked-by i h = tally (marks has-decided i) h
 
--- its committee number: the reselected marks since its last Open
+-- its committee number: the reselections, that is, the reselected marks, since its last Open
 abbrev pub committee-of : ℕ → History → ℕ
 committee-of i [] = 0
 committee-of i (e ∷ h) = elim (opens i e) [ true ↦ 0 | false ↦ cond (marks has-reselected i e) 1 0 + committee-of i h ]
@@ -143,7 +152,7 @@ Always P h = (later : History) (e : Event) (before : History) → h ≡ later ++
 abbrev pub WorkedOut : ℕ → ℕ → History → Type 0
 WorkedOut i b = Once (λ e before. (marks has-proposed i e ≡ true) × (opened-by i (e ∷ before) ≡ b))
 
--- it rang in committee c of batch b
+-- it rang in committee c of batch b: a Ring was accepted while it had that number
 abbrev pub Rang : ℕ → ℕ → ℕ → History → Type 0
 Rang i c b = Once (λ e before. (rings i e ≡ true) × (committee-of i before ≡ c) × (opened-by i before ≡ b))
 
@@ -162,7 +171,8 @@ Puts f e before = (is-injection (e .call) ≡ false) × (frame-at (pool-of befor
 abbrev pub Takes : ℕ → Event → History → Type 0
 Takes f e before = (accepted e ≡ true) × ((i : ℕ) × (e .call ≡ delivery i f))
 
--- a frame is live when a call other than Inject put it there, or a Deliver of it was accepted
+-- a frame is live, so that every station may come to need it, when a call other than Inject put it there
+-- or a Deliver of it was accepted
 abbrev pub Live : ℕ → History → Type 0
 Live f h = Once (Puts f) h ⊎ Once (Takes f) h
 
@@ -179,7 +189,8 @@ module _ (d : Terms) where
   abbrev pub Correct : ℕ → Type 0
   Correct i = (i < d .n) × (d .faulty i ≡ false)
 
-  -- the calls of one full round after the history h: every correct station is handed every live frame
+  -- the calls of one full round after the history h: every correct station is handed every frame that was
+  -- live at its start
   pub record Full (round h : History) : Type 0 where
     pub calm : All Calm round
     pub tries : (i f : ℕ) → Correct i → Live f h → Once (λ e before. e .call ≡ delivery i f) round
@@ -250,7 +261,7 @@ module _ (d : Terms) where
     pub reached : (i : ℕ) × At-work i b h × (committee-of i h ≡ c)
     pub bounds : (i : ℕ) → At-work i b h → c ≤ committee-of i h
 
-  -- the lag in batch b: the highest of those numbers minus the lowest
+  -- the lag in batch b, which is how far some stations are behind: the highest of those numbers minus the lowest
   abbrev pub Lag : ℕ → ℕ → ℕ → History → Type 0
   Lag b high lag h = (low : ℕ) × Highest b high h × Lowest b low h × (lag ≡ high - low)
 

@@ -67,7 +67,7 @@ next-number i w =
     let s : Station = station-at w i in
     with-station i (record { booked = s .booked; work = s .work; number = s .number + 1; proposed = s .proposed; votes = s .votes }) w
 
--- station i holds a vote of station q
+-- station i holds a vote of station q: the entry that q proposed to it, with the tag
 unfoldable pub store : ℕ → ℕ → Vote → World → World
 store i q v w =
     let s : Station = station-at w i in
@@ -202,7 +202,7 @@ module _ (d : Terms) where
         | false ↦ elim (d .seats (c + 1) i) [ true ↦ issue (statement 3 i b (c + 1) 1 (replicate 16 0)) proof i w | false ↦ w ]
       ]
 
-  -- the next committee; `proof` is what a member of the new one alone shows
+  -- it goes on to the next committee; `proof` is what a member of the new one alone shows
   unfoldable pub reselect : ℕ → List (ℕ × ℕ) → World → Stepped
   reselect i proof w =
       let s : Station = station-at w i in
