@@ -8,7 +8,6 @@ use lib.ListN.{length, getD, take, drop}
 use lib.Dec.{ltb, leb}
 use Rattle.std.specs.declared.result.Result.{Result}
 use Rattle.std.specs.declared.result.Result.the-variants.{Ok, Err}
-use Rattle.std.specs.declared.option.Option.the-variants.{None}
 use Rattle.std.proofs.shelf.Tests.{ltb-true, leb-true, not-true}
 use Rattle.std.proofs.shelf.Lists.{take-at, drop-at, length-append, length-drop}
 use Rattle.base.specs.declared.book.Batch.{Batch}
@@ -18,7 +17,7 @@ use Rattle.base.specs.declared.refusal.Refusal.{Refusal}
 use Rattle.base.specs.declared.refusal.Refusal.the-variants.{OutOfRange, WrongLength, NoStation, FaultyStation, NotBooked, NoFrame, ShortBuffer}
 use Rattle.frames.specs.Slots.{frame-at}
 use Rattle.frames.specs.Frames.{_and_, hex, unhex, line-fault}
-use Rattle.protocol.specs.Law.{Terms, History, Correct, clerk, booked-by}
+use Rattle.protocol.specs.Law.{Terms, Correct}
 use Rattle.protocol.specs.Steps.{World, station-at, no-entry, passing, written, in-range, fitting, read-call, write-call}
 use Rattle.protocol.specs.Claims.{Reads-clerk, Wrote, Writes-line}
 use Rattle.frames.proofs.Basics.{and-true}
@@ -27,19 +26,19 @@ use Rattle.frames.proofs.Lines.{unhex-hex, line-hex, hex-of-line}
 use Rattle.frames.proofs.Slots.{framed-short}
 use Rattle.protocol.proofs.Agreement.{run-state}
 
-passing-ok : {A : Type 0} (b : Bool) (why : Refusal) (go : Result A Fault) (x : A) → passing b why go ≡ Ok x → (b ≡ true) × (go ≡ Ok x)
+pub passing-ok : {A : Type 0} (b : Bool) (why : Refusal) (go : Result A Fault) (x : A) → passing b why go ≡ Ok x → (b ≡ true) × (go ≡ Ok x)
 passing-ok true why go x e = (refl, e)
 passing-ok false why go x e = absurd (let z : _≡_ {A = ℕ} 0 1 = cc in omega arith)
 
 -- an accepted Read
-record Read-out (d : Terms) (intake : List Batch) (i k : ℕ) (w : World) (e : Entry) : Type 0 where
+pub record Read-out (d : Terms) (intake : List Batch) (i k : ℕ) (w : World) (e : Entry) : Type 0 where
   pub range : in-range d ≡ true
   pub lengths : fitting d intake w ≡ true
   pub station : Correct d i
   pub counted : (1 ≤ k) × (k ≤ station-at w i .booked)
   pub entry-is : getD (w .books) (i * d .batches + k - 1) no-entry ≡ e
 
-read-out : (d : Terms) (intake : List Batch) (i k : ℕ) (w : World) (e : Entry) → read-call d intake i k w ≡ Ok e → Read-out d intake i k w e
+pub read-out : (d : Terms) (intake : List Batch) (i k : ℕ) (w : World) (e : Entry) → read-call d intake i k w ≡ Ok e → Read-out d intake i k w e
 unfolding read-call
 read-out d intake i k w e q =
     let a = passing-ok (in-range d) OutOfRange _ e q in

@@ -1,11 +1,11 @@
 -- Refusals change nothing, an Inject adds one frame, the clerk books every lawful batch, and the law
 -- excludes halls that book, certify or work otherwise.
-use Prim.Native.Nat.{ℕ, _+_, _-_, _*_, _<_, _≤_}
+use Prim.Native.Nat.{ℕ, _-_, _*_, _≤_}
 use mathlib.Core.Path.{_≡_, refl, sym, ap, subst, _∙_}
 use mathlib.Core.List.{List, [], _∷_}
 use mathlib.Core.Bool.{true, false}
 use native.Mathlib.Omega.{arith}
-use lib.ListN.{length, getD, drop, set}
+use lib.ListN.{length, getD, drop}
 use Rattle.std.specs.declared.result.Result.the-variants.{Ok, Err}
 use Rattle.std.specs.shelf.Lists.{All}
 use Rattle.std.proofs.shelf.Tests.{both-ways}
@@ -14,7 +14,7 @@ use Rattle.base.specs.declared.book.Batch.{Batch}
 use Rattle.base.specs.declared.book.Entry.{Entry}
 use Rattle.base.specs.declared.fault.Fault.{Fault}
 use Rattle.frames.specs.declared.slot.Slot.{Slot}
-use Rattle.frames.specs.Slots.{framed, no-slot, frame-at, free, enter, slot-of}
+use Rattle.frames.specs.Slots.{framed, no-slot, frame-at, enter, slot-of}
 use Rattle.frames.specs.Frames.{unhex}
 use Rattle.protocol.specs.Law.{Terms, Call, History, Marks, opening, delivery, ringing, injection, booked-by, committee-of, clerk, Law, works}
 use Rattle.protocol.specs.Steps.{World, Acted, act, whole-call, no-entry}
