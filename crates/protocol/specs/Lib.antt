@@ -1,0 +1,6 @@
+pub mod Law
+pub mod Steps
+pub mod Bounds
+pub mod Run
+pub mod Claims
+pub mod Three
