@@ -10,3 +10,4 @@ pub mod Decoding
 pub mod Certificates
 pub mod Codec
 pub mod Slots
+pub mod Places

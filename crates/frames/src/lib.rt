@@ -4,4 +4,5 @@ pub mod decode;
 pub mod encode;
 pub mod frame;
 pub mod line;
+pub mod pool;
 pub mod slot;
