@@ -58,7 +58,7 @@ count-says k m u e = (λ h. grind (arith, tells), λ h. grind (arith, tells), λ
 between-ok : (a b c : ℕ) → a ≤ b → b ≤ c → (leb a b and leb b c) ≡ true
 between-ok a b c p q = grind (arith, tells)
 
-between-says : (a b c : ℕ) → (leb a b and leb b c) ≡ true → (a ≤ b) × (b ≤ c)
+pub between-says : (a b c : ℕ) → (leb a b and leb b c) ≡ true → (a ≤ b) × (b ≤ c)
 between-says a b c e = (grind (arith, tells), grind (arith, tells))
 
 rising-none : (n low place : ℕ) (ps : List (ℕ × ℕ)) → Rising n low ps → All (λ c. c .0 ≡ true) (rising-tests n low place ps)

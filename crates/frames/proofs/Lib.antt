@@ -5,6 +5,9 @@ pub mod Frames
 pub mod Packed
 pub mod Lines
 pub mod Reading
+pub mod Encoding
+pub mod Decoding
 pub mod Certificates
 pub mod Codec
 pub mod Slots
+pub mod Places

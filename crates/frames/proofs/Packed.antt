@@ -16,11 +16,11 @@ unpacked-packed bs h =
     let m : min (length bs) 104 ≡ length bs = omega arith in
     ap (λ n. take n (bs ++ replicate (104 - length bs) 0)) m ∙ take-at bs (replicate (104 - length bs) 0) (length bs) refl
 
-take-nil : (n : ℕ) → take {A = ℕ} n [] ≡ []
+take-nil : {X : Type 0} (n : ℕ) → take {A = X} n [] ≡ []
 take-nil zero = refl
 take-nil (suc n) = refl
 
-take-least : (n : ℕ) (ys : List ℕ) → take n ys ≡ take (min (length ys) n) ys
+pub take-least : {X : Type 0} (n : ℕ) (ys : List X) → take n ys ≡ take (min (length ys) n) ys
 take-least n [] = take-nil n ∙ sym (take-nil (min 0 n))
 take-least zero (y ∷ ys) = let m : min (suc (length ys)) 0 ≡ 0 = omega arith in rw m refl
 take-least (suc n) (y ∷ ys) =

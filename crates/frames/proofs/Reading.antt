@@ -18,8 +18,9 @@ use Rattle.base.specs.declared.refusal.Refusal.the-variants.{BadLine, ShortBuff
 use Rattle.base.specs.Refusals.{fault-at}
 use Rattle.frames.specs.declared.bytes.FrameBytes.{FrameBytes}
 use Rattle.frames.specs.Frames.{_and_, nibble, digit, first-wrong, unhex, hex, line-fault}
-use Rattle.frames.specs.Packed.{packed, line-read, line-written, digit-read}
-use Rattle.frames.proofs.Lines.{wrong-stops, wrong-more, unhex-turn, length-hex, sized-ok, sized-says}
+use Rattle.frames.specs.Packed.{packed, line-read, line-written, digit-read, One-line}
+use Rattle.frames.proofs.Lines.{wrong-stops, wrong-more, unhex-turn, length-hex, sized-ok, sized-says, line-hex, unhex-hex, hex-of-line}
+use Rattle.frames.proofs.Numbers.{Bytes}
 
 -- one digit
 
@@ -150,3 +151,41 @@ written-all bs buffer out e room =
 pub written-short : (bs buffer : List ℕ) (x : Fault) → x ≡ fault-at ShortBuffer 0 → length buffer / 2 < length bs → (buffer, Err x) ≡ line-written bs buffer
 unfolding line-written
 written-short bs buffer x e h = rw (lt-leb (length (hex bs)) (length buffer) (omega (arith, length-hex bs)), e) refl
+
+-- reading what was written
+
+packed-once : (xs ys : List ℕ) → packed xs ≡ packed ys → xs ≡ ys
+packed-once xs ys e =
+    let n : length xs ≡ length ys = ap (λ (p : FrameBytes). p .len) e in
+    sym (take-at xs (replicate (104 - length xs) 0) (length xs) refl)
+    ∙ ap₂ (λ (k : ℕ) (p : FrameBytes). take k (p .bytes)) n e
+    ∙ take-at ys (replicate (104 - length ys) 0) (length ys) refl
+
+read-hex : (bs : List ℕ) → Bytes bs → 1 ≤ length bs → length bs ≤ 104 → line-read (hex bs) ≡ Ok (packed bs)
+unfolding line-read
+read-hex bs h low high = ap (outcome (hex bs)) (line-hex bs h low high) ∙ ap (λ (x : List ℕ). Ok (packed x)) (unhex-hex bs h)
+
+read-only : (bs l : List ℕ) → line-read l ≡ Ok (packed bs) → l ≡ hex bs
+unfolding line-read
+read-only bs l e = go (line-fault l) refl e
+  where
+    go : (o : Option ℕ) → line-fault l ≡ o → outcome l o ≡ Ok (packed bs) → l ≡ hex bs
+    go None f e = let same : packed (unhex l) ≡ packed bs = cc in sym (hex-of-line l f) ∙ ap hex (packed-once (unhex l) bs same)
+    go (Some place) f e = absurd (let z : _≡_ {A = ℕ} 0 1 = cc in omega arith)
+
+-- what stands in front of a buffer after a line was written there
+pub line-back : (bs buffer out : List ℕ) (r : Result ℕ Fault) → Bytes bs → (out, r) ≡ line-written bs buffer → (n : ℕ) → r ≡ Ok n → One-line bs (take n out)
+unfolding line-written
+line-back bs buffer out r h e n is = go (leb (length (hex bs)) (length buffer)) e
+  where
+    go : (b : Bool) → _≡_ {A = List ℕ × Result ℕ Fault} (out, r) (cond b (hex bs ++ drop (length (hex bs)) buffer, Ok (length (hex bs))) (buffer, Err (fault-at ShortBuffer 0)))
+        → One-line bs (take n out)
+    go true e =
+        let s : r ≡ Ok (length (hex bs)) = ap (λ (x : List ℕ × Result ℕ Fault). x .1) e in
+        let k : length (hex bs) ≡ n = cc in
+        let o : out ≡ hex bs ++ drop (length (hex bs)) buffer = ap (λ (x : List ℕ × Result ℕ Fault). x .0) e in
+        let line : hex bs ≡ take n out = sym (ap (take n) o ∙ take-at (hex bs) (drop (length (hex bs)) buffer) n k) in
+        record { reads = λ low high. ap line-read (sym line) ∙ read-hex bs h low high; only = λ other f. read-only bs other f ∙ line }
+    go false e =
+        let s : r ≡ Err (fault-at ShortBuffer 0) = ap (λ (x : List ℕ × Result ℕ Fault). x .1) e in
+        absurd (let z : _≡_ {A = ℕ} 0 1 = cc in omega arith)

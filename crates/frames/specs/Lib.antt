@@ -3,3 +3,4 @@ pub mod Frames
 pub mod Slots
 pub mod Packed
 pub mod Certificates
+pub mod Typed

@@ -1,5 +1,6 @@
 -- The bytes of a frame in a place of 104, and what comes of reading and writing a line.
-use Prim.Native.Nat.{ℕ, _-_, min}
+use Prim.Native.Nat.{ℕ, _-_, _≤_, min}
+use mathlib.Core.Path.{_≡_}
 use mathlib.Core.List.{List, _++_}
 use mathlib.Core.Bool.{cond}
 use lib.ListN.{length, getD, take, drop, replicate}
@@ -33,3 +34,8 @@ unfoldable pub line-written : List ℕ → List ℕ → List ℕ × Result ℕ F
 line-written bs buffer =
     let line : List ℕ = hex bs in
     cond (leb (length line) (length buffer)) (line ++ drop (length line) buffer, Ok (length line)) (buffer, Err (fault-at ShortBuffer 0))
+
+-- the line of some bytes: it reads back as them where a line has room for them, and no other line does
+pub record One-line (bs line : List ℕ) : Type 0 where
+  pub reads : 1 ≤ length bs → length bs ≤ 104 → line-read line ≡ Ok (packed bs)
+  pub only : (other : List ℕ) → line-read other ≡ Ok (packed bs) → other ≡ line

@@ -1,10 +1,11 @@
 -- The slots of a pool: the frame that one holds, where a frame goes, and what steps issued.
-use Prim.Native.Nat.{ℕ, _+_, _-_, min}
+use Prim.Native.Nat.{ℕ, suc, _+_, _-_, min}
 use mathlib.Core.List.{List, [], _∷_, _++_}
 use mathlib.Core.Bool.{Bool, true, false, cond}
 use lib.ListN.{length, getD, take, replicate}
 use lib.Dec.{eqb, leb}
 use Rattle.frames.specs.declared.slot.Slot.{Slot}
+use Rattle.frames.specs.declared.pool.Room.{Room}
 use Rattle.frames.specs.Frames.{_and_, _or_}
 
 abbrev pub no-slot : Slot
@@ -27,6 +28,15 @@ free (s ∷ ss) = cond (eqb (s .len) 0) 1 0 + free ss
 abbrev pub enter : Slot → List Slot → List Slot
 enter x [] = []
 enter x (s ∷ ss) = elim (eqb (s .len) 0) [ true ↦ x ∷ ss | false ↦ s ∷ enter x ss ]
+
+-- the place of the lowest empty slot; the pool's length where there is none
+abbrev pub first-free : List Slot → ℕ
+first-free [] = 0
+first-free (s ∷ ss) = elim (eqb (s .len) 0) [ true ↦ 0 | false ↦ suc (first-free ss) ]
+
+-- that place, and how many slots are empty, counted up to three
+abbrev pub room-of : List Slot → Room
+room-of pool = record { lowest = first-free pool; empty = min (free pool) 3 }
 
 -- a slot that holds a frame, put there by a step (0) or from outside (1)
 abbrev pub slot-of : ℕ → List ℕ → Slot

@@ -1,9 +1,10 @@
 // A frame as a line of lower-case hexadecimal digits.
 ghost use mathlib.Core.Path.{_≡_};
-ghost use Prim.Native.Nat.{_<_};
-ghost use lib.ListN.{length};
+ghost use Prim.Native.Nat.{ℕ, _<_};
+ghost use lib.ListN.{length, take};
+ghost use Rattle.std.specs.declared.result.Result.the-variants.{Ok};
 ghost use Rattle.frames.specs.Frames.{digit as «digit-of»};
-ghost use Rattle.frames.specs.Packed.{digit-read, line-read, line-written};
+ghost use Rattle.frames.specs.Packed.{digit-read, line-read, line-written, One-line};
 use super::bytes::FrameBytes;
 use base::fault::Fault;
 use base::refusal::Refusal;
@@ -52,7 +53,8 @@ fn digit(value: u8) -> u8
 
 // Writes the line of some bytes in front of the buffer and answers its length; what lies behind stays.
 pub fn write_line(frame: &[u8], buffer: &mut [u8]) -> Result<usize, Fault>
-    ensures { λ r. ⌜ (now (buffer .exit), r) ≡ line-written (now (frame .entry)) (now (buffer .entry)) ⌝ }
+    ensures is { λ r. ⌜ (now (buffer .exit), r) ≡ line-written (now (frame .entry)) (now (buffer .entry)) ⌝ }
+    ensures back { λ r. ⌜ ((n : ℕ) → r ≡ Ok n → One-line (now (frame .entry)) (take n (now (buffer .exit)))) ⌝ }
 {
     if buffer.len() / 2 < frame.len() {
         return Err(Fault::new(Refusal::ShortBuffer, 0));

@@ -1,0 +1,8 @@
+use mathlib.Core.Path.{_≡_}
+use lib.ListN.{take}
+use Rattle.frames.specs.Packed.{packed}
+use Rattle.frames.proofs.Encoding.{begun}
+use Rattle.frames.proofs.encode.encode.Given as given
+
+abbrev pub Inv-loop-pair : given.InvT-loop-pair
+Inv-loop-pair l = l .bytes ≡ packed (begun (l .frame) (take (l .pair-index) (l .pairs)))
