@@ -4,3 +4,5 @@ pub mod Bounds
 pub mod Run
 pub mod Claims
 pub mod Three
+pub mod Desk
+pub mod Ready
