@@ -11,3 +11,4 @@ pub mod Certificates
 pub mod Codec
 pub mod Slots
 pub mod Places
+pub mod Bothways

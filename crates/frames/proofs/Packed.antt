@@ -16,7 +16,7 @@ unpacked-packed bs h =
     let m : min (length bs) 104 ≡ length bs = omega arith in
     ap (λ n. take n (bs ++ replicate (104 - length bs) 0)) m ∙ take-at bs (replicate (104 - length bs) 0) (length bs) refl
 
-take-nil : {X : Type 0} (n : ℕ) → take {A = X} n [] ≡ []
+pub take-nil : {X : Type 0} (n : ℕ) → take {A = X} n [] ≡ []
 take-nil zero = refl
 take-nil (suc n) = refl
 

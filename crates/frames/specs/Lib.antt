@@ -4,3 +4,4 @@ pub mod Slots
 pub mod Packed
 pub mod Certificates
 pub mod Typed
+pub mod Bothways

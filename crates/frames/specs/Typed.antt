@@ -1,5 +1,5 @@
 -- Frames by their fields: the frame that some bytes are, the bytes of a frame, and what its tags seal.
-use Prim.Native.Nat.{ℕ, _+_, _-_, _*_, min}
+use Prim.Native.Nat.{ℕ, _+_, _-_, _*_, _^_, _<_, min}
 use mathlib.Core.List.{List, [], _∷_, _++_, map}
 use mathlib.Core.Bool.{Bool, true, false, cond}
 use lib.ListN.{length, take, drop, replicate}
@@ -20,7 +20,7 @@ use Rattle.frames.specs.declared.frame.Frame.{Frame}
 use Rattle.frames.specs.declared.decode.Head.{Head}
 use Rattle.frames.specs.Bytes.{be8, entry-bytes, statement, proposes, reselects, pair-bytes}
 use Rattle.frames.specs.Frames.{_and_, kind-of, sender-of, batch-of, number-of, count-of, entry-of, tag-of, pairs-of, all-zero, at}
-use Rattle.frames.specs.Certificates.{malformed}
+use Rattle.frames.specs.Certificates.{Fits, malformed}
 
 abbrev pub kind-number : Kind → ℕ
 kind-number Propose = 1
@@ -108,6 +108,14 @@ head-of bs = record {
 -- what decoding gives
 unfoldable pub decoded : ℕ → ℕ → ℕ → List ℕ → Result Frame Fault
 decoded n t batches bs = held-to (malformed n t batches bs) (frame-of bs)
+
+-- the numbers of a statement are of the sizes that it has room for
+pub record Head-fits (sender batch number count : ℕ) (e : Entry) : Type 0 where
+  pub of-sender : sender < 256
+  pub of-batch : batch < 2 ^ 16
+  pub of-number : number < 2 ^ 16
+  pub of-count : count < 256
+  pub of-entry : Fits e
 
 -- what the sender's tag seals
 abbrev pub stated : Frame → List ℕ

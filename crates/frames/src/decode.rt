@@ -7,6 +7,7 @@ ghost use Rattle.base.specs.Refusals.{fault-at};
 ghost use Rattle.base.specs.declared.refusal.Refusal.the-variants.{Malformed};
 ghost use Rattle.frames.specs.Frames.{first-fault, all-zero, num4, num8, rising-tests, pairs-from, entry-of};
 ghost use Rattle.frames.specs.Typed.{kind-number, kind-named, number-test, count-test, held-to, head-tests, count-tests, body-tests, head-of, holding, decoded};
+ghost use Rattle.frames.specs.Bothways.{Says, Certified};
 use super::frame::Frame;
 use super::frame::Kind;
 use super::frame::Pair;
@@ -207,7 +208,9 @@ fn read_pairs(count: u8, bytes: &[u8]) -> Pairs
 
 // The frame that some bytes are, for n stations of which t may be faulty and a number of batches.
 pub fn decode(n: u32, t: u32, batches: u32, bytes: &[u8]) -> Result<Frame, Fault>
-    ensures { λ r. ⌜ r ≡ decoded n t batches (now (bytes .entry)) ⌝ }
+    ensures is { λ r. ⌜ r ≡ decoded n t batches (now (bytes .entry)) ⌝ }
+    ensures says { λ r. ⌜ made r (λ f. Says f (now (bytes .entry))) ⌝ }
+    ensures certified { λ r. ⌜ Certified n t batches (now (bytes .entry)) r ⌝ }
 {
     let head = read_head(n, batches, bytes)?;
     check_counts(t, &head)?;

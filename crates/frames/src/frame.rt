@@ -1,7 +1,9 @@
 // A frame by its fields.
 ghost use mathlib.Core.Path.{_≡_};
+ghost use Prim.Native.Nat.{min};
+ghost use lib.ListN.{length};
 ghost use Rattle.frames.specs.Bytes.{statement, entry-bytes};
-ghost use Rattle.frames.specs.Typed.{kind-number, listed, stated, pair-stated};
+ghost use Rattle.frames.specs.Typed.{Head-fits, kind-number, listed, stated, pair-stated};
 use base::book::Entry;
 
 // What a frame says, by its number.
@@ -59,7 +61,8 @@ impl Kind {
 
 impl Pairs {
     pub fn as_slice(&self) -> &[Pair]
-        ensures { λ r. ⌜ now r ≡ listed (now (self .entry)) ⌝ }
+        ensures is { λ r. ⌜ now r ≡ listed (now (self .entry)) ⌝ }
+        ensures size { λ r. ⌜ length (now r) ≡ min (now (self .entry) .count) 8 ⌝ }
     {
         let count = (self.count as usize).min(8);
         &self.each[0..count]
@@ -68,7 +71,8 @@ impl Pairs {
 
 // The 24 bytes that a tag seals.
 fn state(kind: Kind, sender: u8, batch: u16, number: u16, count: u8, e: Entry) -> [u8; 24]
-    ensures { λ r. ⌜ r ≡ statement (kind-number kind) sender batch number count (entry-bytes e) ⌝ }
+    ensures is { λ r. ⌜ r ≡ statement (kind-number kind) sender batch number count (entry-bytes e) ⌝ }
+    ensures fits { λ _. ⌜ Head-fits sender batch number count e ⌝ }
 {
     let [b1, b0] = batch.to_be_bytes();
     let [n1, n0] = number.to_be_bytes();
@@ -107,7 +111,8 @@ fn state(kind: Kind, sender: u8, batch: u16, number: u16, count: u8, e: Entry) -
 impl Frame {
     // What the sender's tag seals.
     pub fn statement(&self) -> [u8; 24]
-        ensures { λ r. ⌜ r ≡ stated (now (self .entry)) ⌝ }
+        ensures is { λ r. ⌜ r ≡ stated (now (self .entry)) ⌝ }
+        ensures fits { λ _. ⌜ Head-fits (now (self .entry) .sender) (now (self .entry) .batch) (now (self .entry) .number) (now (self .entry) .pairs .count) (now (self .entry) .entry) ⌝ }
     {
         state(
             self.kind,
