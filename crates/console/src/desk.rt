@@ -5,6 +5,9 @@ use super::words::hex_word;
 use super::words::statement;
 use base::book::Batch;
 use base::fault::Fault;
+use frames::decode::decode;
+use frames::frame::Frame;
+use frames::line::read_line;
 use policies::any::AnyPolicy;
 use policies::any::AnyPolicyPolicy;
 use policies::full::Full;
@@ -40,6 +43,8 @@ pub struct Desk {
     policy: Option<AnyPolicy>,
     seal: Option<AnySeal>,
     intake: Vec<Batch>,
+    // how many batches a frame may name
+    batches: Option<u32>,
 }
 
 impl Desk {
@@ -51,6 +56,7 @@ impl Desk {
             policy: None,
             seal: None,
             intake: Vec::new(heap),
+            batches: None,
         }
     }
 
@@ -68,6 +74,9 @@ impl Desk {
             Some(b"clerk") => return self.book_alone(&words),
             Some(b"seats") => self.seats(&mut words),
             Some(b"tag") => self.tag(&mut words),
+            Some(b"line") => measure(&mut words),
+            Some(b"batches") => self.set_batches(&mut words),
+            Some(b"frame") => self.frame(&mut words),
             _ => Some(Reply::Mistake("unknown command")),
         };
         Ok(reply.unwrap_or(Reply::Mistake("wrong words")))
@@ -211,6 +220,31 @@ impl Desk {
         Some(Reply::Seats(mask))
     }
 
+    fn set_batches(&mut self, words: &mut Words) -> Option<Reply> {
+        let batches = words.last_number()?;
+        if batches < 1 || batches > 1_000 {
+            return None;
+        }
+        self.batches = Some(batches);
+        Some(Reply::Done)
+    }
+
+    fn frame(&self, words: &mut Words) -> Option<Reply> {
+        let line = words.text()?;
+        let Table::Fixed(table) = &self.table else {
+            return Some(Reply::Mistake("no locked table"));
+        };
+        let Some(batches) = self.batches else {
+            return Some(Reply::Mistake("no number of batches"));
+        };
+        Some(
+            match decode_line(line, table, batches) {
+                Ok(frame) => Reply::Decoded(frame),
+                Err(fault) => Reply::Refused(fault),
+            },
+        )
+    }
+
     fn tag(&self, words: &mut Words) -> Option<Reply> {
         let station = words.number()?;
         let text = statement(words.last_word()?)?;
@@ -222,6 +256,22 @@ impl Desk {
             None => Some(Reply::Mistake("no seal")),
         }
     }
+}
+
+// How many bytes a line stands for.
+fn measure(words: &mut Words) -> Option<Reply> {
+    Some(
+        match read_line(words.text()?) {
+            Ok(bytes) => Reply::Bytes(bytes.len),
+            Err(fault) => Reply::Refused(fault),
+        },
+    )
+}
+
+// A line goes through two layers, and what either refuses comes back as it is.
+fn decode_line(line: &[u8], table: &Locked, batches: u32) -> Result<Frame, Fault> {
+    let bytes = read_line(line)?;
+    decode(table.stations(), table.faults(), batches, bytes.as_slice())
 }
 
 // Up to sixteen keys, missing ones 0.

@@ -2,6 +2,8 @@
 use base::book::Entry;
 use base::fault::Fault;
 use base::refusal::Refusal;
+use frames::frame::Frame;
+use frames::frame::Kind;
 use std::fmt;
 
 #[derive(Drop)]
@@ -12,6 +14,9 @@ pub enum Reply {
     // the stations of a committee, bit i for station i
     Seats(u32),
     Tag(u64),
+    // how many bytes a line stands for
+    Bytes(u32),
+    Decoded(Frame),
     Refused(Fault),
     Mistake(&'static str),
 }
@@ -26,6 +31,8 @@ pub impl fmt::Display for Reply as ReplyDisplay {
             }
             Reply::Seats(mask) => show_seats(*mask, f),
             Reply::Tag(tag) => write!(f, "ok {tag:016x}"),
+            Reply::Bytes(count) => write!(f, "ok {count}"),
+            Reply::Decoded(frame) => show_frame(frame, f),
             Reply::Refused(fault) => show_fault(*fault, f),
             Reply::Mistake(reason) => write!(f, "error ({reason})"),
         }
@@ -40,6 +47,42 @@ fn show_seats<W: fmt::Write>(mask: u32, f: &mut fmt::Formatter<W>) -> fmt::Resul
         }
     }
     Ok(())
+}
+
+fn show_frame<W: fmt::Write>(frame: &Frame, f: &mut fmt::Formatter<W>) -> fmt::Result {
+    let kind = match frame.kind {
+        Kind::Propose => "propose",
+        Kind::Decision => "decision",
+        Kind::Reselect => "reselect",
+    };
+    let sender = frame.sender;
+    let batch = frame.batch;
+    let number = frame.number;
+    let pairs = frame.pairs.as_slice();
+    let count = pairs.len();
+    write!(
+        f,
+        "ok {kind} sender {sender} batch {batch} number {number} pairs {count} entry "
+    )?;
+    show_entry(frame.entry, f)?;
+    let tag = frame.tag;
+    write!(f, " tag {tag:016x}")?;
+    for pair in pairs {
+        let station = pair.station;
+        let tag = pair.tag;
+        write!(f, " pair {station} {tag:016x}")?;
+    }
+    Ok(())
+}
+
+fn show_entry<W: fmt::Write>(entry: Entry, f: &mut fmt::Formatter<W>) -> fmt::Result {
+    let Entry {
+        grower,
+        amount,
+        carry,
+        figure,
+    } = entry;
+    write!(f, "{grower} {amount} {carry} {figure}")
 }
 
 fn show_fault<W: fmt::Write>(fault: Fault, f: &mut fmt::Formatter<W>) -> fmt::Result {
