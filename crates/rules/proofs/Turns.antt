@@ -18,7 +18,7 @@ use Rattle.rules.specs.Plain.{checked-of}
 use Rattle.rules.specs.Clerk.{worked, clerk-book}
 
 -- a batch that is checked is lawful, and stays what it was
-passes : (p b : Batch) → Some p ≡ checked-of b → (p ≡ b) × (lawful b ≡ true)
+pub passes : (p b : Batch) → Some p ≡ checked-of b → (p ≡ b) × (lawful b ≡ true)
 passes p b e = go (lawful b) e
   where
     go : (x : Bool) → Some p ≡ cond x (Some b) None → (p ≡ b) × (x ≡ true)
