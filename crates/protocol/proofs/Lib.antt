@@ -22,3 +22,4 @@ pub mod Bounds
 pub mod Certificates
 pub mod Reading
 pub mod Sanity
+pub mod Lifts
