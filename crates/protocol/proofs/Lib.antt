@@ -23,3 +23,5 @@ pub mod Certificates
 pub mod Reading
 pub mod Sanity
 pub mod Lifts
+pub mod Fields
+pub mod Splits

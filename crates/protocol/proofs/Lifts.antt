@@ -48,6 +48,12 @@ module _ (i : ℕ) (w : World) (inside : i < length (w .stations)) where
       ∙ ap (λ (x : Desk). lifted i (put-back i w k) (G x)) (desk-again k)
       ∙ ap (λ (v : World). (v, G k .1)) (put-back-twice i w k (G k .0))
 
+  pub put-again : (F : World → World) (G : Desk → Desk) → ((v : World) → F v ≡ put-back i v (G (desk-at v i)))
+      → (k : Desk) → F (put-back i w k) ≡ put-back i w (G k)
+  put-again F G is k =
+      ap (λ (r : World × Unit {0}). r .0)
+      (lifted-again {A = Unit {0}} (λ v. (F v, tt)) (λ x. (G x, tt)) (λ v _. ap (λ (u : World). (u, tt)) (is v)) k)
+
 -- a function of what two tests pick
 two-tests : {X Y : Type 0} (f : X → Y) (a b : Bool) (x y z : X)
     → _≡_ {A = Y} (elim a [ true ↦ f x | false ↦ elim b [ true ↦ f y | false ↦ f z ] ])
