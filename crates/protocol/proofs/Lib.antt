@@ -25,3 +25,4 @@ pub mod Sanity
 pub mod Lifts
 pub mod Fields
 pub mod Splits
+pub mod Passed
