@@ -26,3 +26,4 @@ pub mod Lifts
 pub mod Fields
 pub mod Splits
 pub mod Passed
+pub mod Steady
