@@ -72,10 +72,6 @@ pub store-is : (i q : ℕ) (v : Vote) (w : World) → store i q v w ≡ put-back
 unfolding store with-station
 store-is i q v w = refl
 
-pub own-entry-is : (w : World) (i : ℕ) → own-entry w i ≡ own-vote i (station-at w i)
-unfolding own-entry
-own-entry-is w i = refl
-
 -- the mark on a frame touches no record
 pub mark-taken-is : (i f : ℕ) (w : World) → mark-taken f w ≡ put-back i w (taken-on f (desk-at w i))
 unfolding mark-taken marked-taken
