@@ -5,18 +5,15 @@ use mathlib.Core.List.{List, _∷_}
 use mathlib.Core.Bool.{Bool, true, false}
 use native.Mathlib.Omega.{arith}
 use lib.ListN.{length}
-use lib.Dec.{eqb, leb}
 use Rattle.std.specs.declared.result.Result.the-variants.{Err}
 use Rattle.std.specs.shelf.Lists.{All}
-use Rattle.std.proofs.shelf.Tests.{eqb-true, eq-eqb, leb-true, both-ways}
+use Rattle.std.proofs.shelf.Tests.{eq-eqb, both-ways}
 use Rattle.base.specs.declared.book.Batch.{Batch}
 use Rattle.base.specs.declared.fault.Fault.{Fault}
 use Rattle.frames.specs.Certificates.{Fits}
-use Rattle.frames.specs.Frames.{_and_}
 use Rattle.protocol.specs.Law.{Terms, Call, History, works, Sound-in-turn, Law}
 use Rattle.protocol.specs.Steps.{World, Acted, act, in-range, fitting, whole-call}
 use Rattle.protocol.specs.Run.{size, Lawful, Empty, New, Run, fresh, called, strayed, Agreement}
-use Rattle.frames.proofs.Basics.{and-true}
 use Rattle.protocol.proofs.Usable.{Usable, Begun, Played, begun, acted, barred}
 use Rattle.protocol.proofs.Rules.{reaches, refused-6, refused-7}
 use Rattle.protocol.proofs.History.{Inv}
@@ -24,6 +21,7 @@ use Rattle.protocol.proofs.Calls.{call-keeps}
 use Rattle.protocol.proofs.Runs.{run-inv, one-book, true-certificates, booked-certified}
 use Rattle.protocol.proofs.Progress.{rounds-book}
 use Rattle.protocol.proofs.Refusing.{Refused, refusals-law}
+use Rattle.protocol.proofs.Passed.{ranged, fitted}
 
 -- where calls are not refused 6 or 7
 played-law : (d : Terms) → Usable d → Sound-in-turn d → (intake : List Batch) (start : World) → Begun d intake start
@@ -43,26 +41,10 @@ played-law d law sound-turn intake start new h w run =
       lazy = inv .lazy;
     }
 
--- what the tests for 6 and 7 tell
-few-batches : (d : Terms) → in-range d ≡ true → d .batches ≤ 1000
-unfolding in-range
-few-batches d a =
-    let p = and-true (eqb (d .policy-n) (d .n)) (eqb (d .policy-t) (d .t) and leb 1 (d .batches) and leb (d .batches) 1000 and leb 3 (d .slots) and leb (d .slots) 65536) a in
-    let q = and-true (eqb (d .policy-t) (d .t)) (leb 1 (d .batches) and leb (d .batches) 1000 and leb 3 (d .slots) and leb (d .slots) 65536) (p .1) in
-    let r = and-true (leb 1 (d .batches)) (leb (d .batches) 1000 and leb 3 (d .slots) and leb (d .slots) 65536) (q .1) in
-    leb-true (d .batches) 1000 (and-true (leb (d .batches) 1000) (leb 3 (d .slots) and leb (d .slots) 65536) (r .1) .0)
-
 module _ (d : Terms) (intake : List Batch) where
-  lengths : (w : World) → fitting d intake w ≡ true → (length intake ≡ d .batches) × (length (w .pool) ≡ d .slots) × (length (w .books) ≡ d .n * d .batches)
-  unfolding fitting
-  lengths w e =
-      let p = and-true (eqb (length intake) (d .batches)) (eqb (length (w .pool)) (d .slots) and eqb (length (w .books)) (d .n * d .batches)) e in
-      let q = and-true (eqb (length (w .pool)) (d .slots)) (eqb (length (w .books)) (d .n * d .batches)) (p .1) in
-      (eqb-true _ _ (p .0), eqb-true _ _ (q .0), eqb-true _ _ (q .1))
-
   fits-still : (w v : World) → fitting d intake w ≡ true → length (v .pool) ≡ length (w .pool) → length (v .books) ≡ d .n * d .batches → fitting d intake v ≡ true
   unfolding fitting
-  fits-still w v e p q = let s = lengths w e in rw (eq-eqb (length intake) (d .batches) (s .0), eq-eqb (length (v .pool)) (d .slots) (p ∙ s .1), eq-eqb (length (v .books)) (d .n * d .batches) q) refl
+  fits-still w v e p q = let s = fitted d intake w e in rw (eq-eqb (length intake) (d .batches) (s .intake-places), eq-eqb (length (v .pool)) (d .slots) (p ∙ s .pool-places), eq-eqb (length (v .books)) (d .n * d .batches) q) refl
 
   module _ (law : Lawful d) (start : World) (new : New d start) where
     -- a committee without a faulty member comes in every turn
@@ -81,7 +63,7 @@ module _ (d : Terms) (intake : List Batch) where
       majority = law .majority;
       few-stations = law .few-stations;
       few-faulty = law .few-faulty;
-      few-batches = few-batches d a;
+      few-batches = ranged d a .few-batches;
       full = λ c l. subst₂ (λ (n t : ℕ). size (d .seats c) n ≡ t + 1) (new .one-n) (new .one-t) (law .full c l);
       never-idle = law .never-idle;
       fits = fit-entry;
@@ -91,7 +73,7 @@ module _ (d : Terms) (intake : List Batch) where
     -- a run in which the buffers fit is one of `act`
     module _ (a : in-range d ≡ true) (b : fitting d intake start ≡ true) where
       starts : Begun d intake start
-      starts = let s = lengths start b in record { idle = new .idle; empty = new .empty; intake-size = s .0; book-size = s .2 }
+      starts = let s = fitted d intake start b in record { idle = new .idle; empty = new .empty; intake-size = s .intake-places; book-size = s .book-places }
 
       plays : (h : History) (w : World) → Run d intake start h w → Played d intake start h w × (fitting d intake w ≡ true)
       plays h w fresh = (begun, b)

@@ -26,7 +26,7 @@ use Rattle.frames.proofs.Codec.{says-reselect}
 use Rattle.protocol.proofs.Records.{taken-stations, idle-station}
 use Rattle.protocol.proofs.Rules.{open-rule, ring-rule, deliver-rule, inject-rule, settle-rule, announce-rule, reselect-rule, proposal-rule, moved-on, Delivering, whole-rule}
 
-length-enter : (x : Slot) (p : List Slot) → length (enter x p) ≡ length p
+pub length-enter : (x : Slot) (p : List Slot) → length (enter x p) ≡ length p
 length-enter x [] = refl
 length-enter x (s ∷ ss) = go (eqb (s .len) 0) refl (length-enter x ss)
   where

@@ -22,3 +22,8 @@ pub mod Bounds
 pub mod Certificates
 pub mod Reading
 pub mod Sanity
+pub mod Lifts
+pub mod Fields
+pub mod Splits
+pub mod Passed
+pub mod Steady

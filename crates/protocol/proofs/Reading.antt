@@ -2,7 +2,7 @@
 use Prim.Native.Nat.{ℕ, _+_, _-_, _*_, _≤_}
 use mathlib.Core.Path.{_≡_, refl, sym, ap, _∙_}
 use mathlib.Core.List.{List, _++_}
-use mathlib.Core.Bool.{Bool, true, false, not}
+use mathlib.Core.Bool.{true, not}
 use native.Mathlib.Omega.{arith}
 use lib.ListN.{length, getD, take, drop}
 use lib.Dec.{ltb, leb}
@@ -13,7 +13,6 @@ use Rattle.std.proofs.shelf.Lists.{take-at, drop-at, length-append, length-drop
 use Rattle.base.specs.declared.book.Batch.{Batch}
 use Rattle.base.specs.declared.book.Entry.{Entry}
 use Rattle.base.specs.declared.fault.Fault.{Fault}
-use Rattle.base.specs.declared.refusal.Refusal.{Refusal}
 use Rattle.base.specs.declared.refusal.Refusal.the-variants.{OutOfRange, WrongLength, NoStation, FaultyStation, NotBooked, NoFrame, ShortBuffer}
 use Rattle.frames.specs.Slots.{frame-at}
 use Rattle.frames.specs.Frames.{_and_, hex, unhex, line-fault}
@@ -25,10 +24,7 @@ use Rattle.frames.proofs.Numbers.{Bytes}
 use Rattle.frames.proofs.Lines.{unhex-hex, line-hex, hex-of-line}
 use Rattle.frames.proofs.Slots.{framed-short}
 use Rattle.protocol.proofs.Agreement.{run-state}
-
-pub passing-ok : {A : Type 0} (b : Bool) (why : Refusal) (go : Result A Fault) (x : A) → passing b why go ≡ Ok x → (b ≡ true) × (go ≡ Ok x)
-passing-ok true why go x e = (refl, e)
-passing-ok false why go x e = absurd (let z : _≡_ {A = ℕ} 0 1 = cc in omega arith)
+use Rattle.protocol.proofs.Passed.{passing-ok}
 
 -- an accepted Read
 pub record Read-out (d : Terms) (intake : List Batch) (i k : ℕ) (w : World) (e : Entry) : Type 0 where

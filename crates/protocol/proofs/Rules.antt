@@ -20,7 +20,7 @@ use Rattle.frames.specs.Bytes.{statement, reselects}
 use Rattle.frames.specs.Slots.{frame-at, free, enter, slot-of}
 use Rattle.frames.specs.Frames.{_and_, kind-of, sender-of, batch-of, number-of, tag-of, pairs-of, entry-of, line-fault, unhex, first-pair}
 use Rattle.protocol.specs.Law.{Terms, Call}
-use Rattle.protocol.specs.Steps.{World, Acted, Stepped, test, form-faults, tag-faults, stepped, at-work, station-at, take-up, propose, decide, settle, join, announce, reselect, next-number, open-call, ring-call, deliver-call, inject-call, take-proposal, meet, meet-proposal, meet-decision, meet-reselect, shows, store, differs, mark-taken, issue, no-batch, malformed, forgery, sender-sealed, pair-sealed, held, rightly-sent, pair-left, support, act, in-range, fitting, whole-call}
+use Rattle.protocol.specs.Steps.{World, Acted, Stepped, refused, test, form-faults, tag-faults, stepped, at-work, station-at, take-up, propose, decide, settle, join, announce, reselect, next-number, open-call, ring-call, deliver-call, inject-call, take-proposal, meet, meet-proposal, meet-decision, meet-reselect, shows, store, differs, mark-taken, issue, no-batch, malformed, forgery, sender-sealed, pair-sealed, held, rightly-sent, pair-left, support, act, in-range, fitting, whole-call}
 use Rattle.frames.proofs.Basics.{and-true, by-test}
 
 module _ (d : Terms) where
@@ -243,11 +243,17 @@ module _ (d : Terms) where
   unfolding whole-call
   reaches intake c w a b = rw (a, b) refl
 
-  pub refused-6 : (intake : List Batch) (c : Call) (w : World) → in-range d ≡ false → (x : Fault) × (whole-call d intake c w ≡ (w, Err x))
+  pub out-of-range : (intake : List Batch) (c : Call) (w : World) → in-range d ≡ false → whole-call d intake c w ≡ refused w OutOfRange 0
   unfolding whole-call
-  refused-6 intake c w a = (fault-at OutOfRange 0, rw a refl)
+  out-of-range intake c w a = rw a refl
+
+  pub wrong-length : (intake : List Batch) (c : Call) (w : World) → in-range d ≡ true → fitting d intake w ≡ false → whole-call d intake c w ≡ refused w WrongLength 0
+  unfolding whole-call
+  wrong-length intake c w a b = rw (a, b) refl
+
+  pub refused-6 : (intake : List Batch) (c : Call) (w : World) → in-range d ≡ false → (x : Fault) × (whole-call d intake c w ≡ (w, Err x))
+  refused-6 intake c w a = (fault-at OutOfRange 0, out-of-range intake c w a)
 
   pub refused-7 : (intake : List Batch) (c : Call) (w : World) → in-range d ≡ true → fitting d intake w ≡ false
       → (x : Fault) × (whole-call d intake c w ≡ (w, Err x))
-  unfolding whole-call
-  refused-7 intake c w a b = (fault-at WrongLength 0, rw (a, b) refl)
+  refused-7 intake c w a b = (fault-at WrongLength 0, wrong-length intake c w a b)
