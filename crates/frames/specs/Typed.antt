@@ -21,6 +21,7 @@ use Rattle.frames.specs.declared.decode.Head.{Head}
 use Rattle.frames.specs.Bytes.{be8, entry-bytes, statement, proposes, reselects, pair-bytes}
 use Rattle.frames.specs.Frames.{_and_, kind-of, sender-of, batch-of, number-of, count-of, entry-of, tag-of, pairs-of, all-zero, at}
 use Rattle.frames.specs.Certificates.{Fits, malformed}
+use Rattle.frames.specs.Packed.{unpacked, line-read}
 
 abbrev pub kind-number : Kind → ℕ
 kind-number Propose = 1
@@ -109,6 +110,10 @@ head-of bs = record {
 unfoldable pub decoded : ℕ → ℕ → ℕ → List ℕ → Result Frame Fault
 decoded n t batches bs = held-to (malformed n t batches bs) (frame-of bs)
 
+-- what decoding a line gives: its own fault, the frame's, or the frame
+abbrev pub line-decoded : ℕ → ℕ → ℕ → List ℕ → Result Frame Fault
+line-decoded n t batches l = elim (line-read l) [ Ok p ↦ decoded n t batches (unpacked p) | Err x ↦ Err x ]
+
 -- the numbers of a statement are of the sizes that it has room for
 pub record Head-fits (sender batch number count : ℕ) (e : Entry) : Type 0 where
   pub of-sender : sender < 256
@@ -129,6 +134,10 @@ pair-stated f q = elim (f .kind) [
   | Reselect ↦ reselects q (f .batch) (f .number)
 ]
 
+-- a frame's statement and tag, and some pairs behind them
+abbrev pub begun : Frame → List Pair → List ℕ
+begun f ps = stated f ++ be8 (f .tag) ++ pair-bytes (map plain ps)
+
 -- the bytes of a frame
 unfoldable pub encoded : Frame → List ℕ
-encoded f = stated f ++ be8 (f .tag) ++ pair-bytes (map plain (listed (f .pairs)))
+encoded f = begun f (listed (f .pairs))

@@ -26,7 +26,7 @@ fn put(dst: &mut [u8], at: usize, src: &[u8])
 
 impl FrameBytes {
     // Two parts after each other, with zeros behind them; past 104 bytes they are cut off.
-    pub fn join(front: &[u8], back: &[u8]) -> FrameBytes
+    pub(super) fn join(front: &[u8], back: &[u8]) -> FrameBytes
         ensures { λ r. ⌜ r ≡ packed (take 104 (now (front .entry) ++ now (back .entry))) ⌝ }
     {
         let at = front.len().min(LONGEST);
