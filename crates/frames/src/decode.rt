@@ -12,6 +12,7 @@ ghost use Rattle.frames.specs.Typed.{kind-number, kind-named, number-test, cou
 ghost use Rattle.frames.specs.Bothways.{Both-ways};
 use super::frame::Frame;
 use super::frame::Kind;
+use super::frame::NO_PAIR;
 use super::frame::Pair;
 use super::frame::Pairs;
 use super::line::read_line;
@@ -198,7 +199,7 @@ fn read_pairs(count: u8, bytes: &[u8]) -> Pairs
     requires { ⌜ length (now bytes) ≡ 32 + 9 * count ⌝ }
     ensures { λ r. ⌜ r ≡ holding count (pairs-from count 32 (now (bytes .entry))) ⌝ }
 {
-    let mut each = [Pair { station: 0, tag: 0 }; 8];
+    let mut each = [NO_PAIR; 8];
     for k in 0..count.min(8) as usize {
         let place = 32 + 9 * k;
         each[k] = Pair {

@@ -43,8 +43,11 @@ pub struct Frame {
     pub pairs: Pairs,
 }
 
+// What stands where there is no pair.
+pub const NO_PAIR: Pair = Pair { station: 0, tag: 0 };
+
 // An entry that says nothing.
-const NO_ENTRY: Entry = Entry {
+pub const NO_ENTRY: Entry = Entry {
     grower: 0,
     amount: 0,
     carry: 0,
