@@ -2,41 +2,32 @@
 use Prim.Native.Nat.{ℕ, zero, suc, _+_, _-_, _*_, _^_, _<_, _≤_, min}
 use mathlib.Core.Path.{_≡_, refl, sym, ap, ap₂, subst, _∙_}
 use mathlib.Core.Logic.{⊎-elim}
-use mathlib.Core.Bool.{true, cond}
+use mathlib.Core.Bool.{cond}
 use mathlib.Core.List.{List, [], _∷_, _++_, map}
 use native.Mathlib.Nat.{zero-add, suc-add}
 use native.Mathlib.Omega.{arith}
-use lib.ListN.{length, getD, take, drop, replicate}
+use lib.ListN.{length, take, replicate}
 use lib.Dec.{eqb}
-use Rattle.std.specs.declared.option.Option.{Option}
-use Rattle.std.specs.declared.option.Option.the-variants.{Some, None}
-use Rattle.std.specs.declared.result.Result.{Result}
-use Rattle.std.specs.declared.result.Result.the-variants.{Ok, Err}
+use Rattle.std.specs.declared.option.Option.the-variants.{None}
+use Rattle.std.specs.declared.result.Result.the-variants.{Ok}
 use Rattle.std.specs.shelf.Lists.{All}
-use Rattle.std.specs.Vec.{made}
 use Rattle.std.proofs.shelf.Tests.{eq-eqb, eqb-true, ne-eqb, cases-eq}
-use Rattle.std.proofs.shelf.Ways.{tells}
-use Rattle.std.proofs.shelf.Elements.{all-weaker, all-map, all-more}
-use Rattle.std.proofs.shelf.Lists.{append-assoc, length-append, length-map, length-take, length-take-le, nil-from-length, take-all, take-at}
+use Rattle.std.proofs.shelf.Elements.{all-weaker, all-map}
+use Rattle.std.proofs.shelf.Lists.{length-map, length-take, nil-from-length, take-all, take-at}
 use Rattle.base.specs.declared.book.Entry.{Entry}
-use Rattle.base.specs.declared.fault.Fault.{Fault}
 use Rattle.frames.specs.declared.frame.Kind.{Kind}
 use Rattle.frames.specs.declared.frame.Kind.the-variants.{Propose, Decision, Reselect}
 use Rattle.frames.specs.declared.frame.Pair.{Pair}
-use Rattle.frames.specs.declared.frame.Pairs.{Pairs}
 use Rattle.frames.specs.declared.frame.Frame.{Frame}
-use Rattle.frames.specs.declared.bytes.FrameBytes.{FrameBytes}
 use Rattle.frames.specs.Bytes.{be8, statement, entry-bytes, proposes, reselects, pair-bytes}
-use Rattle.frames.specs.Frames.{at, kind-of, sender-of, batch-of, number-of, count-of, tag-of, entry-of, pairs-of, pair-states, first-pair}
-use Rattle.frames.specs.Certificates.{malformed, sender-sealed, pair-sealed, Fits, Rising, Passes, Certificate}
-use Rattle.frames.specs.Packed.{packed, unpacked}
+use Rattle.frames.specs.Frames.{kind-of, sender-of, batch-of, number-of, count-of, tag-of, entry-of, pairs-of, pair-states}
+use Rattle.frames.specs.Certificates.{malformed, pair-sealed, Rising, Passes}
 use Rattle.frames.specs.Typed.{kind-number, kind-at, no-pair, pair-at, plain, listed, holding, frame-of, held-to, decoded, stated, pair-stated, encoded, Head-fits}
-use Rattle.frames.specs.Bothways.{Says, Fields, Well-formed, Accepted, Both-ways, Reads-back, no-entry}
-use Rattle.frames.proofs.Numbers.{Bytes, num8-lt}
+use Rattle.frames.specs.Bothways.{Says, Fields, Well-formed, Accepted, Both-ways, Reads-back}
+use Rattle.frames.proofs.Numbers.{Bytes}
 use Rattle.frames.proofs.Formed.{Formed, formed-none, none-formed, first-pair-all, first-pair-none}
 use Rattle.frames.proofs.Frames.{frame, frame-is, take-frame, tag-frame, batch-frame, number-frame, pairs-of-frame, entry-frame, body-entry, length-pairs-from, propose-formed, decision-formed, reselect-formed}
-use Rattle.frames.proofs.Packed.{unpacked-packed, take-nil}
-use Rattle.frames.proofs.Encoding.{length-begun}
+use Rattle.frames.proofs.Packed.{take-nil}
 use Rattle.frames.proofs.Decoding.{named, held, decoded-holds}
 use Rattle.frames.proofs.Certificates.{certificate}
 
@@ -66,7 +57,7 @@ renamed Reselect = refl
 
 -- the numbers of a frame are of their types, and it has its pairs
 pub record Sound (f : Frame) : Type 0 where
-  pub front : Head-fits (f .sender) (f .batch) (f .number) (f .pairs .count) (f .entry)
+  pub front : Head-fits f
   pub seal : f .tag < 2 ^ 64
   pub size : length (listed (f .pairs)) ≡ min (f .pairs .count) 8
   pub tags : All (λ (p : Pair). p .tag < 2 ^ 64) (listed (f .pairs))
@@ -151,7 +142,7 @@ module _ (n t batches : ℕ) (f : Frame) (s : Sound f) (w : Well-formed n t batc
 
 -- for the contract of encode
 pub encode-back : (f : Frame) (ps : List Pair) (k : ℕ) → ps ≡ listed (f .pairs) → length ps ≡ min (f .pairs .count) 8 → length ps ≤ k
-    → Head-fits (f .sender) (f .batch) (f .number) (f .pairs .count) (f .entry) → f .tag < 2 ^ 64 → All (λ (p : Pair). p .tag < 2 ^ 64) (take k ps) → Reads-back f
+    → Head-fits f → f .tag < 2 ^ 64 → All (λ (p : Pair). p .tag < 2 ^ 64) (take k ps) → Reads-back f
 encode-back f ps k is size end front seal tags n t batches w =
     let s : Sound f = record {
       front = front;

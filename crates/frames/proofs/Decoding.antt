@@ -5,22 +5,18 @@ use mathlib.Core.Bool.{Bool, true, false}
 use mathlib.Core.List.{List, [], _∷_, _++_, map}
 use native.Mathlib.Omega.{arith}
 use lib.ListN.{length, getD, take, drop, set, replicate}
-use lib.Dec.{eqb}
 use Rattle.std.specs.declared.option.Option.{Option}
 use Rattle.std.specs.declared.option.Option.the-variants.{Some, None}
-use Rattle.std.specs.declared.result.Result.{Result}
 use Rattle.std.specs.declared.result.Result.the-variants.{Ok, Err}
 use Rattle.std.proofs.shelf.Tests.{eq-eqb, ne-eqb}
 use Rattle.std.proofs.shelf.Ways.{tells}
-use Rattle.std.proofs.shelf.Lists.{append-assoc, append-nil, at-drop-more, getD-map, length-append, length-map, length-take, length-take-le, map-more, set-at, take-all, take-take}
+use Rattle.std.proofs.shelf.Lists.{append-assoc, at-drop-more, length-map, length-take, length-take-le, map-more, set-at}
 use Rattle.base.specs.declared.book.Entry.{Entry}
 use Rattle.base.specs.declared.fault.Fault.{Fault}
 use Rattle.base.specs.declared.refusal.Refusal.the-variants.{Malformed}
 use Rattle.base.specs.Refusals.{fault-at}
-use Rattle.frames.specs.declared.frame.Kind.{Kind}
 use Rattle.frames.specs.declared.frame.Pair.{Pair}
 use Rattle.frames.specs.declared.frame.Pairs.{Pairs}
-use Rattle.frames.specs.declared.frame.Frame.{Frame}
 use Rattle.frames.specs.declared.decode.Head.{Head}
 use Rattle.frames.specs.Frames.{_and_, at, num8, all-zero, first-fault, rising-tests, pairs-from, pairs-of, kind-of, number-of, count-of, entry-of, tag-of}
 use Rattle.frames.specs.Certificates.{malformed}

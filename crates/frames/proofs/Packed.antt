@@ -1,5 +1,5 @@
 -- Frames in a place of 104 bytes: what two parts make, and that nothing is lost.
-use Prim.Native.Nat.{ℕ, zero, suc, _+_, _-_, _<_, _≤_, min}
+use Prim.Native.Nat.{ℕ, zero, suc, _+_, _-_, _≤_, min}
 use mathlib.Core.Path.{_≡_, refl, sym, ap, ap₂, _∙_}
 use mathlib.Core.List.{List, [], _∷_, _++_}
 use native.Mathlib.Nat.{zero-add}
@@ -7,7 +7,6 @@ use native.Mathlib.Omega.{arith}
 use lib.ListN.{length, take, drop, replicate}
 use lib.Seq.{paste}
 use Rattle.std.proofs.shelf.Lists.{drop-at, drop-drop, drop-replicate, length-append, length-take-le, take-all, take-at}
-use Rattle.frames.specs.declared.bytes.FrameBytes.{FrameBytes}
 use Rattle.frames.specs.Packed.{packed, unpacked}
 
 -- bytes that fit are read back

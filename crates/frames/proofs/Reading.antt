@@ -11,14 +11,14 @@ use Rattle.std.specs.declared.option.Option.{Option}
 use Rattle.std.specs.declared.option.Option.the-variants.{Some, None}
 use Rattle.std.specs.declared.result.Result.{Result}
 use Rattle.std.specs.declared.result.Result.the-variants.{Ok, Err}
-use Rattle.std.proofs.shelf.Tests.{ltb-true, ltb-false, le-leb, lt-leb}
+use Rattle.std.proofs.shelf.Tests.{ltb-true, ltb-false}
 use Rattle.std.proofs.shelf.Lists.{append-assoc, append-nil, drop-all, drop-at, drop-drop, drop-replicate, drop-set-lt, length-append, length-drop, length-set, length-take-le, take-all, take-at, take-append-drop, take-more}
 use Rattle.base.specs.declared.fault.Fault.{Fault}
-use Rattle.base.specs.declared.refusal.Refusal.the-variants.{BadLine, ShortBuffer}
+use Rattle.base.specs.declared.refusal.Refusal.the-variants.{BadLine}
 use Rattle.base.specs.Refusals.{fault-at}
 use Rattle.frames.specs.declared.bytes.FrameBytes.{FrameBytes}
 use Rattle.frames.specs.Frames.{_and_, nibble, digit, first-wrong, unhex, hex, line-fault}
-use Rattle.frames.specs.Packed.{packed, Sized, line-read, line-written, digit-read, One-line}
+use Rattle.frames.specs.Packed.{packed, Sized, line-read, One-line}
 use Rattle.frames.proofs.Lines.{wrong-stops, wrong-more, unhex-turn, length-hex, sized-ok, sized-says, line-hex, unhex-hex, hex-of-line}
 use Rattle.frames.proofs.Numbers.{Bytes}
 

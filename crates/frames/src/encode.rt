@@ -29,7 +29,7 @@ fn write_pair(station: u8, tag: u64) -> [u8; 9]
 // A frame's statement and tag, and its pairs behind them.
 fn assemble(frame: &Frame, statement: &[u8; 24], tag: &[u8; 8]) -> FrameBytes
     requires states { ⌜ now statement ≡ stated (now frame) ⌝ }
-    requires fits { ⌜ Head-fits (now frame .sender) (now frame .batch) (now frame .number) (now frame .pairs .count) (now frame .entry) ⌝ }
+    requires fits { ⌜ Head-fits (now frame) ⌝ }
     requires sealed { ⌜ now tag ≡ be8 (now frame .tag) ⌝ }
     requires small { ⌜ now frame .tag < 2 ^ 64 ⌝ }
     ensures is { λ r. ⌜ r ≡ packed (encoded (now (frame .entry))) ⌝ }

@@ -1,5 +1,4 @@
 use Prim.Native.Nat.{_<_, _^_}
-use native.Mathlib.Omega.{arith}
 use Rattle.std.proofs.shelf.Elements.{all-more}
 use Rattle.frames.specs.declared.frame.Pair.{Pair}
 use Rattle.frames.specs.Typed.{no-pair}
