@@ -48,3 +48,7 @@ encode-all f ps k b p h inv = inv ∙ ap (λ x. packed (begun f x)) (take-all k 
 
 pub few-listed : (f : Frame) (ps : List Pair) → ps ≡ listed (f .pairs) → length ps ≤ 8
 few-listed f ps p = omega (arith, ap length p, length-take (min (f .pairs .count) 8) (f .pairs .each))
+
+pub short-encoded : (f : Frame) (ps : List Pair) → ps ≡ listed (f .pairs) → length (encoded f) ≤ 104
+unfolding encoded
+short-encoded f ps p = omega (arith, length-begun f (listed (f .pairs)), few-listed f ps p, ap length p)

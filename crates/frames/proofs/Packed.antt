@@ -26,6 +26,10 @@ take-least (suc n) (y ∷ ys) =
     let m : min (suc (length ys)) (suc n) ≡ suc (min (length ys) n) = omega arith in
     rw m (ap (λ r. y ∷ r) (take-least n ys))
 
+-- for code that hands them on
+pub packed-through : (bs : List ℕ) → length bs ≤ 104 → take 104 (unpacked (packed bs)) ≡ bs
+packed-through bs h = ap (take 104) (unpacked-packed bs h) ∙ take-all 104 bs h
+
 -- a list cut off, by its two parts
 take-two : (n : ℕ) (xs ys : List ℕ) → take n (xs ++ ys) ≡ take (min (length xs) n) xs ++ take (min (length ys) (n - min (length xs) n)) ys
 take-two zero xs ys =

@@ -7,7 +7,7 @@ ghost use lib.Seq.{paste};
 ghost use Rattle.frames.specs.Packed.{packed, unpacked};
 
 // The longest frame has eight pairs.
-const LONGEST: usize = 104;
+pub const LONGEST: usize = 104;
 
 // The first `len` bytes are the frame; a length above 104 is read as 104.
 #[derive(Clone, Copy)]
@@ -40,6 +40,7 @@ impl FrameBytes {
         }
     }
 
+    // The bytes of a slice, as many as there is room for.
     pub fn of(frame: &[u8]) -> FrameBytes
         ensures { λ r. ⌜ r ≡ packed (take 104 (now (frame .entry))) ⌝ }
     {

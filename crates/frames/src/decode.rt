@@ -20,7 +20,7 @@ use base::book::Entry;
 use base::fault::Fault;
 use base::refusal::Refusal;
 
-// The highest committee number.
+// The highest committee number that a reselect may call up.
 const LAST_NUMBER: u16 = 20_000;
 
 // The first eight bytes.
@@ -239,7 +239,8 @@ fn read_frame(head: Head, bytes: &[u8]) -> Frame
     }
 }
 
-// The frame that some bytes are, for n stations of which t may be faulty and a number of batches.
+// The frame that some bytes are, for n stations of which t may be faulty and a number of batches. Of
+// more than eight pairs the first eight are kept.
 pub fn decode(n: u32, t: u32, batches: u32, bytes: &[u8]) -> Result<Frame, Fault>
     ensures is { λ r. ⌜ r ≡ decoded n t batches (now (bytes .entry)) ⌝ }
     ensures both { λ _. ⌜ Both-ways n t batches (now (bytes .entry)) ⌝ }

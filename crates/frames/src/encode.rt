@@ -1,7 +1,8 @@
 // A frame as bytes.
 ghost use mathlib.Core.Path.{_≡_};
 ghost use mathlib.Core.List.{_∷_};
-ghost use Prim.Native.Nat.{_<_, _^_};
+ghost use Prim.Native.Nat.{_<_, _≤_, _^_};
+ghost use lib.ListN.{length};
 ghost use Rattle.frames.specs.Bytes.{be8};
 ghost use Rattle.frames.specs.Packed.{packed};
 ghost use Rattle.frames.specs.Typed.{Head-fits, stated, encoded};
@@ -33,6 +34,7 @@ fn assemble(frame: &Frame, statement: &[u8; 24], tag: &[u8; 8]) -> FrameBytes
     requires sealed { ⌜ now tag ≡ be8 (now frame .tag) ⌝ }
     requires small { ⌜ now frame .tag < 2 ^ 64 ⌝ }
     ensures is { λ r. ⌜ r ≡ packed (encoded (now (frame .entry))) ⌝ }
+    ensures short { λ _. ⌜ length (encoded (now (frame .entry))) ≤ 104 ⌝ }
     ensures back { λ _. ⌜ Reads-back (now (frame .entry)) ⌝ }
 {
     let mut bytes = FrameBytes::join(statement, tag);
@@ -46,6 +48,7 @@ fn assemble(frame: &Frame, statement: &[u8; 24], tag: &[u8; 8]) -> FrameBytes
 // The statement, the tag on it and the pairs.
 pub fn encode(frame: &Frame) -> FrameBytes
     ensures is { λ r. ⌜ r ≡ packed (encoded (now (frame .entry))) ⌝ }
+    ensures short { λ _. ⌜ length (encoded (now (frame .entry))) ≤ 104 ⌝ }
     ensures back { λ _. ⌜ Reads-back (now (frame .entry)) ⌝ }
 {
     assemble(frame, &frame.statement(), &write_tag(frame.tag))

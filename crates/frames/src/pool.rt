@@ -47,7 +47,7 @@ fn count_free(pool: &[Slot]) -> u8
     count
 }
 
-// Looks at each slot once, and no further than the third free one.
+// One pass: the count goes on where the search stopped, and no further than the third free slot.
 pub fn find_room(pool: &[Slot]) -> Room
     ensures is { λ r. ⌜ r ≡ room-of (now (pool .entry)) ⌝ }
     ensures place { λ r. ⌜ ((x : AnySlot) → entered x (now (pool .entry)) ≡ set (now (pool .entry)) (r .lowest) x) ⌝ }

@@ -2,7 +2,7 @@ use Prim.Native.Nat.{_<_, _^_}
 use Rattle.std.proofs.shelf.Elements.{all-more}
 use Rattle.frames.specs.declared.frame.Pair.{Pair}
 use Rattle.frames.specs.Typed.{no-pair}
-use Rattle.frames.proofs.Encoding.{encode-first, encode-more, encode-all, few-listed}
+use Rattle.frames.proofs.Encoding.{encode-first, encode-more, encode-all, few-listed, short-encoded}
 use Rattle.frames.proofs.Bothways.{encode-back}
 use Rattle.frames.proofs.encode.assemble.Needs as need
 
@@ -24,6 +24,7 @@ returns c =
     encode-all (c .args .frame .now) (c .as-slice-pairs .result .now) (c .loop-pair .pair-index) (c .loop-pair .bytes) (c .as-slice-pairs .ensures .is) (c .loop-pair-test .left) (c .loop-pair .inv .0) in
     record {
       is = is;
+      short = short-encoded (c .args .frame .now) (c .as-slice-pairs .result .now) (c .as-slice-pairs .ensures .is);
       back = encode-back (c .args .frame .now) (c .as-slice-pairs .result .now) (c .loop-pair .pair-index) (c .as-slice-pairs .ensures .is) (c .as-slice-pairs .ensures .size) (c .loop-pair-test .left)
           (c .pre .fits) (c .pre .small) (c .loop-pair .inv .1);
     }
