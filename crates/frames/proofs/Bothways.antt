@@ -2,41 +2,32 @@
 use Prim.Native.Nat.{ℕ, zero, suc, _+_, _-_, _*_, _^_, _<_, _≤_, min}
 use mathlib.Core.Path.{_≡_, refl, sym, ap, ap₂, subst, _∙_}
 use mathlib.Core.Logic.{⊎-elim}
-use mathlib.Core.Bool.{true, cond}
+use mathlib.Core.Bool.{cond}
 use mathlib.Core.List.{List, [], _∷_, _++_, map}
 use native.Mathlib.Nat.{zero-add, suc-add}
 use native.Mathlib.Omega.{arith}
-use lib.ListN.{length, getD, take, drop, replicate}
+use lib.ListN.{length, take, replicate}
 use lib.Dec.{eqb}
-use Rattle.std.specs.declared.option.Option.{Option}
-use Rattle.std.specs.declared.option.Option.the-variants.{Some, None}
-use Rattle.std.specs.declared.result.Result.{Result}
-use Rattle.std.specs.declared.result.Result.the-variants.{Ok, Err}
+use Rattle.std.specs.declared.option.Option.the-variants.{None}
+use Rattle.std.specs.declared.result.Result.the-variants.{Ok}
 use Rattle.std.specs.shelf.Lists.{All}
-use Rattle.std.specs.Vec.{made}
 use Rattle.std.proofs.shelf.Tests.{eq-eqb, eqb-true, ne-eqb, cases-eq}
-use Rattle.std.proofs.shelf.Ways.{tells}
-use Rattle.std.proofs.shelf.Elements.{all-weaker, all-map, all-more}
-use Rattle.std.proofs.shelf.Lists.{append-assoc, length-append, length-map, length-take, length-take-le, nil-from-length, take-all, take-at}
+use Rattle.std.proofs.shelf.Elements.{all-weaker, all-map}
+use Rattle.std.proofs.shelf.Lists.{length-map, length-take, nil-from-length, take-all, take-at}
 use Rattle.base.specs.declared.book.Entry.{Entry}
-use Rattle.base.specs.declared.fault.Fault.{Fault}
 use Rattle.frames.specs.declared.frame.Kind.{Kind}
 use Rattle.frames.specs.declared.frame.Kind.the-variants.{Propose, Decision, Reselect}
 use Rattle.frames.specs.declared.frame.Pair.{Pair}
-use Rattle.frames.specs.declared.frame.Pairs.{Pairs}
 use Rattle.frames.specs.declared.frame.Frame.{Frame}
-use Rattle.frames.specs.declared.bytes.FrameBytes.{FrameBytes}
 use Rattle.frames.specs.Bytes.{be8, statement, entry-bytes, proposes, reselects, pair-bytes}
-use Rattle.frames.specs.Frames.{at, kind-of, sender-of, batch-of, number-of, count-of, tag-of, entry-of, pairs-of, pair-states, first-pair}
-use Rattle.frames.specs.Certificates.{malformed, sender-sealed, pair-sealed, Fits, Rising, Passes, Certificate}
-use Rattle.frames.specs.Packed.{packed, unpacked}
+use Rattle.frames.specs.Frames.{kind-of, sender-of, batch-of, number-of, count-of, tag-of, entry-of, pairs-of, pair-states}
+use Rattle.frames.specs.Certificates.{malformed, pair-sealed, Rising, Passes}
 use Rattle.frames.specs.Typed.{kind-number, kind-at, no-pair, pair-at, plain, listed, holding, frame-of, held-to, decoded, stated, pair-stated, encoded, Head-fits}
-use Rattle.frames.specs.Bothways.{Says, Fields, Well-formed, Accepted, Certified, no-entry}
-use Rattle.frames.proofs.Numbers.{Bytes, num8-lt}
+use Rattle.frames.specs.Bothways.{Says, Fields, Well-formed, Accepted, Both-ways, Reads-back}
+use Rattle.frames.proofs.Numbers.{Bytes}
 use Rattle.frames.proofs.Formed.{Formed, formed-none, none-formed, first-pair-all, first-pair-none}
 use Rattle.frames.proofs.Frames.{frame, frame-is, take-frame, tag-frame, batch-frame, number-frame, pairs-of-frame, entry-frame, body-entry, length-pairs-from, propose-formed, decision-formed, reselect-formed}
-use Rattle.frames.proofs.Packed.{unpacked-packed, take-nil}
-use Rattle.frames.proofs.Encoding.{length-begun}
+use Rattle.frames.proofs.Packed.{take-nil}
 use Rattle.frames.proofs.Decoding.{named, held, decoded-holds}
 use Rattle.frames.proofs.Certificates.{certificate}
 
@@ -66,7 +57,7 @@ renamed Reselect = refl
 
 -- the numbers of a frame are of their types, and it has its pairs
 pub record Sound (f : Frame) : Type 0 where
-  pub front : Head-fits (f .sender) (f .batch) (f .number) (f .pairs .count) (f .entry)
+  pub front : Head-fits f
   pub seal : f .tag < 2 ^ 64
   pub size : length (listed (f .pairs)) ≡ min (f .pairs .count) 8
   pub tags : All (λ (p : Pair). p .tag < 2 ^ 64) (listed (f .pairs))
@@ -98,10 +89,6 @@ module _ (n t sender batch number count : ℕ) (e : Entry) (g : ℕ) (ps : List 
   written-formed Reselect (low, high, few, none) =
       subst (Formed n t batch) (sym (λ i. frame (statement 3 sender batch number count (entry-bytes (none i))) g ps))
       (reselect-formed n t batch small sender batch sends (some, omega arith) g number count ps (low, high) counts few rises tags)
-
-short-encoded : (f : Frame) → length (listed (f .pairs)) ≡ min (f .pairs .count) 8 → length (encoded f) ≤ 104
-unfolding encoded
-short-encoded f size = omega (arith, length-begun f (listed (f .pairs)), size)
 
 module _ (n t batches : ℕ) (f : Frame) (s : Sound f) (w : Well-formed n t batches f) where
   abbrev ps : List (ℕ × ℕ)
@@ -154,18 +141,16 @@ module _ (n t batches : ℕ) (f : Frame) (s : Sound f) (w : Well-formed n t batc
   decoded-encoded = ap (λ o. held-to o (frame-of (encoded f))) (formed-none n t batches (encoded f) formed) ∙ ap Ok reads
 
 -- for the contract of encode
-pub encode-back : (f : Frame) (ps : List Pair) (k : ℕ) (b : FrameBytes) → ps ≡ listed (f .pairs) → length ps ≡ min (f .pairs .count) 8 → length ps ≤ k
-    → Head-fits (f .sender) (f .batch) (f .number) (f .pairs .count) (f .entry) → f .tag < 2 ^ 64 → All (λ (p : Pair). p .tag < 2 ^ 64) (take k ps) → b ≡ packed (encoded f)
-    → (n t batches : ℕ) → Well-formed n t batches f → decoded n t batches (unpacked b) ≡ Ok f
-encode-back f ps k b is size end front seal tags e n t batches w =
+pub encode-back : (f : Frame) (ps : List Pair) (k : ℕ) → ps ≡ listed (f .pairs) → length ps ≡ min (f .pairs .count) 8 → length ps ≤ k
+    → Head-fits f → f .tag < 2 ^ 64 → All (λ (p : Pair). p .tag < 2 ^ 64) (take k ps) → Reads-back f
+encode-back f ps k is size end front seal tags n t batches w =
     let s : Sound f = record {
       front = front;
       seal = seal;
       size = ap length (sym is) ∙ size;
       tags = subst (All (λ (p : Pair). p .tag < 2 ^ 64)) (take-all k ps end ∙ is) tags;
     } in
-    let short : length (encoded f) ≤ 104 = short-encoded f (ap length (sym is) ∙ size) in
-    ap (decoded n t batches) (ap unpacked e ∙ unpacked-packed (encoded f) short) ∙ decoded-encoded n t batches f s w
+    decoded-encoded n t batches f s w
 
 -- what was decoded
 
@@ -245,19 +230,9 @@ decoded-some : (n t batches : ℕ) (bs : List ℕ) (f : Frame) → decoded n t b
 unfolding decoded
 decoded-some n t batches bs f e = held (malformed n t batches bs) (frame-of bs) f (sym e)
 
-decoded-ok : (n t batches : ℕ) (bs : List ℕ) → malformed n t batches bs ≡ None → decoded n t batches bs ≡ Ok (frame-of bs)
-decoded-ok n t batches bs none = sym (decoded-holds n t batches bs (frame-of bs) none refl)
-
--- for the contract of decode
-pub says-decoded : (n t batches : ℕ) (bs : List ℕ) (r : Result Frame Fault) → Bytes bs → r ≡ decoded n t batches bs → made r (λ f. Says f bs)
-says-decoded n t batches bs (Err x) h e = tt
-says-decoded n t batches bs (Ok f) h e =
-    let p = decoded-some n t batches bs f (sym e) in
-    subst (λ (g : Frame). Says g bs) (sym (p .1)) (says n t batches bs h (p .0))
-
 -- certificates
 
-module _ (n t batches : ℕ) (tag : ℕ → List ℕ → ℕ) (bs : List ℕ) (h : Bytes bs) (r : Result Frame Fault) (is : r ≡ decoded n t batches bs) where
+module _ (n t batches : ℕ) (tag : ℕ → List ℕ → ℕ) (bs : List ℕ) (h : Bytes bs) where
   kind-read : (f : Frame) → f ≡ frame-of bs → f .kind ≡ Decision → kind-at (kind-of bs) ≡ Decision
   unfolding frame-of
   kind-read f e k = sym (ap (λ (g : Frame). g .kind) e) ∙ k
@@ -266,9 +241,9 @@ module _ (n t batches : ℕ) (tag : ℕ → List ℕ → ℕ) (bs : List ℕ) (h
   unfolding frame-of
   sealed-read f e k = sym (ap (λ (g : Frame). g .tag) e) ∙ k ∙ ap (λ (g : Frame). tag (g .sender) (stated f)) e
 
-  accepted-passes : Accepted tag bs r → Passes n t batches tag bs
+  accepted-passes : Accepted n t batches tag bs → Passes n t batches tag bs
   accepted-passes a =
-      let p = decoded-some n t batches bs (a .frame) (sym is ∙ a .decodes) in
+      let p = decoded-some n t batches bs (a .frame) (a .decodes) in
       let s = subst (λ (g : Frame). Says g bs) (sym (p .1)) (says n t batches bs h (p .0)) in
       let kind : kind-at (kind-of bs) ≡ Decision = kind-read (a .frame) (p .1) (a .decision) in
       record {
@@ -278,19 +253,22 @@ module _ (n t batches : ℕ) (tag : ℕ → List ℕ → ℕ) (bs : List ℕ) (h
         pairs = first-pair-none (pair-sealed tag bs) 32 (pairs-of bs) (all-weaker _ _ (λ q e. eq-eqb _ _ (e ∙ ap (tag (q .0)) (s .seals (q .0)))) (pairs-of bs) (a .pairs-right));
       }
 
-  passes-accepted : Passes n t batches tag bs → Accepted tag bs r
+  passes-accepted : Passes n t batches tag bs → Accepted n t batches tag bs
   unfolding frame-of
   passes-accepted p =
       let s = says n t batches bs h (p .formed) in
       record {
         frame = frame-of bs;
-        decodes = is ∙ decoded-ok n t batches bs (p .formed);
+        decodes = decoded-holds n t batches bs (p .formed);
         decision = ap kind-at (p .decision);
         sender-right = eqb-true _ _ (p .sender) ∙ ap (tag (sender-of bs)) (sym (s .states));
         pairs-right = all-weaker _ _ (λ q e. eqb-true _ _ e ∙ ap (tag (q .0)) (sym (s .seals (q .0)))) (pairs-of bs) (first-pair-all (pair-sealed tag bs) 32 (pairs-of bs) (p .pairs));
       }
 
-pub certified : (n t batches : ℕ) (bs : List ℕ) (r : Result Frame Fault) → Bytes bs → r ≡ decoded n t batches bs → Certified n t batches bs r
-certified n t batches bs r h is tag small =
-    let c = certificate n t batches tag bs h (small _ _) in
-    (λ a. c .0 (accepted-passes n t batches tag bs h r is a), λ x. passes-accepted n t batches tag bs h r is (c .1 x))
+-- for the contract of decode
+pub both-ways : (n t batches : ℕ) (bs : List ℕ) → Bytes bs → Both-ways n t batches bs
+both-ways n t batches bs h = record {
+  says = λ f e. let p = decoded-some n t batches bs f e in subst (λ (g : Frame). Says g bs) (sym (p .1)) (says n t batches bs h (p .0));
+  accepts = λ tag small a. certificate n t batches tag bs h (small _ _) .0 (accepted-passes n t batches tag bs h a);
+  certifies = λ tag small x. passes-accepted n t batches tag bs h (certificate n t batches tag bs h (small _ _) .1 x);
+}

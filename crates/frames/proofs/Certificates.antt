@@ -10,7 +10,7 @@ use Rattle.std.specs.shelf.Lists.{All}
 use Rattle.std.proofs.shelf.Tests.{eqb-true, eq-eqb}
 use Rattle.std.proofs.shelf.Elements.{all-weaker}
 use Rattle.frames.specs.Bytes.{statement, entry-bytes}
-use Rattle.frames.specs.Frames.{at, kind-of, sender-of, batch-of, number-of, count-of, tag-of, pairs-of, entry-of, first-pair}
+use Rattle.frames.specs.Frames.{at, kind-of, sender-of, batch-of, number-of, count-of, tag-of, pairs-of, entry-of}
 use Rattle.frames.specs.Certificates.{malformed, sender-sealed, pair-sealed, Certificate, Passes}
 use Rattle.frames.proofs.Numbers.{Bytes, num4-lt}
 use Rattle.frames.proofs.Formed.{formed-none, none-formed, first-pair-all, first-pair-none}

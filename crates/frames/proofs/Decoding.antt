@@ -5,22 +5,18 @@ use mathlib.Core.Bool.{Bool, true, false}
 use mathlib.Core.List.{List, [], _∷_, _++_, map}
 use native.Mathlib.Omega.{arith}
 use lib.ListN.{length, getD, take, drop, set, replicate}
-use lib.Dec.{eqb}
 use Rattle.std.specs.declared.option.Option.{Option}
 use Rattle.std.specs.declared.option.Option.the-variants.{Some, None}
-use Rattle.std.specs.declared.result.Result.{Result}
 use Rattle.std.specs.declared.result.Result.the-variants.{Ok, Err}
 use Rattle.std.proofs.shelf.Tests.{eq-eqb, ne-eqb}
 use Rattle.std.proofs.shelf.Ways.{tells}
-use Rattle.std.proofs.shelf.Lists.{append-assoc, append-nil, at-drop-more, getD-map, length-append, length-map, length-take, length-take-le, map-more, set-at, take-all, take-take}
+use Rattle.std.proofs.shelf.Lists.{append-assoc, at-drop-more, length-map, length-take, length-take-le, map-more, set-at}
 use Rattle.base.specs.declared.book.Entry.{Entry}
 use Rattle.base.specs.declared.fault.Fault.{Fault}
 use Rattle.base.specs.declared.refusal.Refusal.the-variants.{Malformed}
 use Rattle.base.specs.Refusals.{fault-at}
-use Rattle.frames.specs.declared.frame.Kind.{Kind}
 use Rattle.frames.specs.declared.frame.Pair.{Pair}
 use Rattle.frames.specs.declared.frame.Pairs.{Pairs}
-use Rattle.frames.specs.declared.frame.Frame.{Frame}
 use Rattle.frames.specs.declared.decode.Head.{Head}
 use Rattle.frames.specs.Frames.{_and_, at, num8, all-zero, first-fault, rising-tests, pairs-from, pairs-of, kind-of, number-of, count-of, entry-of, tag-of}
 use Rattle.frames.specs.Certificates.{malformed}
@@ -132,13 +128,13 @@ named k low high = grind (arith, tells)
 
 module _ (n t batches : ℕ) (bs : List ℕ) where
   -- where a part of the tests fails after those before it have passed
-  pub decoded-fails : (place : ℕ) (r : Result Frame Fault) → malformed n t batches bs ≡ Some place → r ≡ Err (fault-at Malformed place) → r ≡ decoded n t batches bs
+  pub decoded-fails : (place : ℕ) (x : Fault) → malformed n t batches bs ≡ Some place → x ≡ fault-at Malformed place → decoded n t batches bs ≡ Err x
   unfolding decoded
-  decoded-fails place r e q = q ∙ sym (ap (λ o. held-to o (frame-of bs)) e)
+  decoded-fails place x e q = ap (λ o. held-to o (frame-of bs)) e ∙ ap Err (sym q)
 
-  pub decoded-holds : (f : Frame) → malformed n t batches bs ≡ None → f ≡ frame-of bs → Ok f ≡ decoded n t batches bs
+  pub decoded-holds : malformed n t batches bs ≡ None → decoded n t batches bs ≡ Ok (frame-of bs)
   unfolding decoded
-  decoded-holds f e q = ap Ok q ∙ sym (ap (λ o. held-to o (frame-of bs)) e)
+  decoded-holds e = ap (λ o. held-to o (frame-of bs)) e
 
   -- the four parts, as the code passes through them
   abbrev tail₂ : List (Bool × ℕ)
@@ -182,10 +178,10 @@ module _ (n t batches : ℕ) (bs : List ℕ) where
 
 -- decoding, part by part: `h` is the head that was read
 module _ (n t batches : ℕ) (bs : List ℕ) where
-  pub decode-head : (r : Result Frame Fault) (x : Fault) → Err x ≡ held-to (first-fault (head-tests n batches bs)) (head-of bs) → r ≡ Err x → r ≡ decoded n t batches bs
-  decode-head r x e q =
+  pub decode-head : (x : Fault) → Err x ≡ held-to (first-fault (head-tests n batches bs)) (head-of bs) → decoded n t batches bs ≡ Err x
+  decode-head x e =
       let p = refused (first-fault (head-tests n batches bs)) (head-of bs) x e in
-      decoded-fails n t batches bs (p .0) r (fails-head n t batches bs (p .0) (p .1)) (q ∙ ap Err (p .2))
+      decoded-fails n t batches bs (p .0) x (fails-head n t batches bs (p .0) (p .1)) (p .2)
 
   module _ (h : Head) (read : Ok h ≡ held-to (first-fault (head-tests n batches bs)) (head-of bs)) where
     passed : first-fault (head-tests n batches bs) ≡ None
@@ -219,41 +215,44 @@ module _ (n t batches : ℕ) (bs : List ℕ) where
     rising-is : rising ≡ first-fault (rising-tests n 0 32 (pairs-of bs))
     rising-is = λ i. first-fault (rising-tests n 0 32 (pairs-from (count i) 32 bs))
 
-    pub decode-counts : (r : Result Frame Fault) (x : Fault) → Err x ≡ held-to {A = Unit {0}} counted tt → r ≡ Err x → r ≡ decoded n t batches bs
-    decode-counts r x e q =
+    pub decode-counts : (x : Fault) → Err x ≡ held-to {A = Unit {0}} counted tt → decoded n t batches bs ≡ Err x
+    decode-counts x e =
         let p = refused {A = Unit {0}} counted tt x e in
-        decoded-fails n t batches bs (p .0) r (fails-counts n t batches bs passed (p .0) (sym counted-is ∙ p .1)) (q ∙ ap Err (p .2))
+        decoded-fails n t batches bs (p .0) x (fails-counts n t batches bs passed (p .0) (sym counted-is ∙ p .1)) (p .2)
 
     module _ (u : Unit {0}) (pass : Ok u ≡ held-to {A = Unit {0}} counted tt) where
       fits : first-fault (count-tests t (kind-of bs) (number-of bs) (count-of bs) (at bs 7)) ≡ None
       fits = sym counted-is ∙ held {A = Unit {0}} counted tt u pass .0
 
-      pub decode-body : (r : Result Frame Fault) (x : Fault) → Err x ≡ held-to {A = Unit {0}} bodied tt → r ≡ Err x → r ≡ decoded n t batches bs
-      decode-body r x e q =
+      pub decode-body : (x : Fault) → Err x ≡ held-to {A = Unit {0}} bodied tt → decoded n t batches bs ≡ Err x
+      decode-body x e =
           let p = refused {A = Unit {0}} bodied tt x e in
-          decoded-fails n t batches bs (p .0) r (fails-body n t batches bs passed fits (p .0) (sym bodied-is ∙ p .1)) (q ∙ ap Err (p .2))
+          decoded-fails n t batches bs (p .0) x (fails-body n t batches bs passed fits (p .0) (sym bodied-is ∙ p .1)) (p .2)
 
       module _ (v : Unit {0}) (body : Ok v ≡ held-to {A = Unit {0}} bodied tt) where
         left : malformed n t batches bs ≡ rising
         left = after-body n t batches bs passed fits (sym bodied-is ∙ held {A = Unit {0}} bodied tt v body .0) ∙ sym rising-is
 
-        pub decode-pairs : (r : Result Frame Fault) (x : Fault) → Err x ≡ held-to {A = Unit {0}} rising tt → r ≡ Err x → r ≡ decoded n t batches bs
-        decode-pairs r x e q =
+        pub decode-pairs : (x : Fault) → Err x ≡ held-to {A = Unit {0}} rising tt → decoded n t batches bs ≡ Err x
+        decode-pairs x e =
             let p = refused {A = Unit {0}} rising tt x e in
-            decoded-fails n t batches bs (p .0) r (left ∙ p .1) (q ∙ ap Err (p .2))
+            decoded-fails n t batches bs (p .0) x (left ∙ p .1) (p .2)
 
-        pub decode-all : (w : Unit {0}) → Ok w ≡ held-to {A = Unit {0}} rising tt → (e : Entry) (g : ℕ) (ps : Pairs)
-            → e ≡ entry-of bs → g ≡ tag-of bs → ps ≡ holding (h .count) (pairs-from (h .count) 32 bs)
-            → Ok (record { kind = h .kind; sender = h .sender; batch = h .batch; number = h .number; entry = e; tag = g; pairs = ps }) ≡ decoded n t batches bs
-        unfolding frame-of
-        decode-all w pairs e g ps p q s =
-            decoded-holds n t batches bs _ (left ∙ held {A = Unit {0}} rising tt w pairs .0)
-            (λ i. record {
-              kind = whole i .kind;
-              sender = whole i .sender;
-              batch = whole i .batch;
-              number = whole i .number;
-              entry = p i;
-              tag = q i;
-              pairs = (s ∙ ap (λ m. holding m (pairs-from m 32 bs)) count) i;
-            })
+        pub decode-all : (w : Unit {0}) → Ok w ≡ held-to {A = Unit {0}} rising tt → (h ≡ head-of bs) × (decoded n t batches bs ≡ Ok (frame-of bs))
+        decode-all w pairs = (whole, decoded-holds n t batches bs (left ∙ held {A = Unit {0}} rising tt w pairs .0))
+
+-- the frame, by its head and the rest
+pub frame-read : (bs : List ℕ) (h : Head) → h ≡ head-of bs → (e : Entry) (g : ℕ) (ps : Pairs) → e ≡ entry-of bs → g ≡ tag-of bs
+    → ps ≡ holding (h .count) (pairs-from (h .count) 32 bs)
+    → record { kind = h .kind; sender = h .sender; batch = h .batch; number = h .number; entry = e; tag = g; pairs = ps } ≡ frame-of bs
+unfolding frame-of
+frame-read bs h whole e g ps p q s =
+    λ i. record {
+      kind = whole i .kind;
+      sender = whole i .sender;
+      batch = whole i .batch;
+      number = whole i .number;
+      entry = p i;
+      tag = q i;
+      pairs = (s ∙ ap (λ (x : Head). holding (x .count) (pairs-from (x .count) 32 bs)) whole) i;
+    }

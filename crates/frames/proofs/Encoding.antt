@@ -10,13 +10,9 @@ use Rattle.frames.specs.declared.frame.Pair.{Pair}
 use Rattle.frames.specs.declared.frame.Frame.{Frame}
 use Rattle.frames.specs.Bytes.{be8, pair-bytes}
 use Rattle.frames.specs.Packed.{packed, unpacked}
-use Rattle.frames.specs.Typed.{no-pair, plain, listed, stated, encoded}
+use Rattle.frames.specs.Typed.{no-pair, plain, listed, stated, begun, encoded}
 use Rattle.frames.proofs.Frames.{length-pair-bytes}
 use Rattle.frames.proofs.Packed.{unpacked-packed}
-
--- a frame with some of its pairs
-abbrev pub begun : Frame → List Pair → List ℕ
-begun f ps = stated f ++ be8 (f .tag) ++ pair-bytes (map plain ps)
 
 pub length-begun : (f : Frame) (ps : List Pair) → length (begun f ps) ≡ 32 + 9 * length ps
 length-begun f ps = simp length-append (omega (arith, length-pair-bytes (map plain ps), length-map ps plain))
@@ -52,3 +48,7 @@ encode-all f ps k b p h inv = inv ∙ ap (λ x. packed (begun f x)) (take-all k 
 
 pub few-listed : (f : Frame) (ps : List Pair) → ps ≡ listed (f .pairs) → length ps ≤ 8
 few-listed f ps p = omega (arith, ap length p, length-take (min (f .pairs .count) 8) (f .pairs .each))
+
+pub short-encoded : (f : Frame) (ps : List Pair) → ps ≡ listed (f .pairs) → length (encoded f) ≤ 104
+unfolding encoded
+short-encoded f ps p = omega (arith, length-begun f (listed (f .pairs)), few-listed f ps p, ap length p)

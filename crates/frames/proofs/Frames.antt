@@ -8,18 +8,18 @@ use native.Mathlib.Nat.{add-zero}
 use native.Mathlib.Omega.{arith}
 use lib.ListN.{length, getD, take, drop, replicate}
 use lib.Dec.{ltb, leb}
-use Rattle.std.specs.declared.option.Option.the-variants.{Some, None}
+use Rattle.std.specs.declared.option.Option.the-variants.{Some}
 use Rattle.std.specs.shelf.Lists.{All}
-use Rattle.std.proofs.shelf.Tests.{eqb-true, eq-eqb, cases-lt, ne-eqb}
+use Rattle.std.proofs.shelf.Tests.{eq-eqb, cases-lt, ne-eqb}
 use Rattle.std.proofs.shelf.Ways.{tells}
 use Rattle.std.proofs.shelf.Lists.{length-append, append-assoc, take-at, drop-at, drop-drop, drop-all, getD-drop}
-use Rattle.std.proofs.shelf.Elements.{all-append, all-weaker}
+use Rattle.std.proofs.shelf.Elements.{all-append}
 use Rattle.base.specs.declared.book.Entry.{Entry}
 use Rattle.frames.specs.Bytes.{byte, be4, be8, entry-bytes, statement, proposes, reselects, pair-bytes}
-use Rattle.frames.specs.Certificates.{Rising, Fits, Certifies, malformed, sender-sealed, pair-sealed}
+use Rattle.frames.specs.Certificates.{Rising, Fits}
 use Rattle.frames.specs.Frames.{at, num8, entry-of, kind-of, sender-of, batch-of, number-of, count-of, tag-of, pairs-from, pairs-of, pair-states, first-fault, rising-tests, _and_}
-use Rattle.frames.proofs.Numbers.{Bytes, be2-bytes, be4-bytes, be8-bytes, num2-be2, num4-be4, num8-at, num4-lt, be2-num2, be4-num4, be8-num8, take-read, drop-read}
-use Rattle.frames.proofs.Formed.{Formed, none-formed}
+use Rattle.frames.proofs.Numbers.{Bytes, be2-bytes, be4-bytes, be8-bytes, num2-be2, num4-be4, num8-at, be2-num2, be4-num4, be8-num8, take-read, drop-read}
+use Rattle.frames.proofs.Formed.{Formed}
 
 drop-on : (bs l : List ℕ) (i j : ℕ) → drop i bs ≡ l → drop (i + j) bs ≡ drop j l
 drop-on bs l i j e = sym (drop-drop j i bs) ∙ ap (drop j) e

@@ -1,5 +1,5 @@
 -- Frames in a place of 104 bytes: what two parts make, and that nothing is lost.
-use Prim.Native.Nat.{ℕ, zero, suc, _+_, _-_, _<_, _≤_, min}
+use Prim.Native.Nat.{ℕ, zero, suc, _+_, _-_, _≤_, min}
 use mathlib.Core.Path.{_≡_, refl, sym, ap, ap₂, _∙_}
 use mathlib.Core.List.{List, [], _∷_, _++_}
 use native.Mathlib.Nat.{zero-add}
@@ -7,7 +7,6 @@ use native.Mathlib.Omega.{arith}
 use lib.ListN.{length, take, drop, replicate}
 use lib.Seq.{paste}
 use Rattle.std.proofs.shelf.Lists.{drop-at, drop-drop, drop-replicate, length-append, length-take-le, take-all, take-at}
-use Rattle.frames.specs.declared.bytes.FrameBytes.{FrameBytes}
 use Rattle.frames.specs.Packed.{packed, unpacked}
 
 -- bytes that fit are read back
@@ -26,6 +25,10 @@ take-least zero (y ∷ ys) = let m : min (suc (length ys)) 0 ≡ 0 = omega arith
 take-least (suc n) (y ∷ ys) =
     let m : min (suc (length ys)) (suc n) ≡ suc (min (length ys) n) = omega arith in
     rw m (ap (λ r. y ∷ r) (take-least n ys))
+
+-- for code that hands them on
+pub packed-through : (bs : List ℕ) → length bs ≤ 104 → take 104 (unpacked (packed bs)) ≡ bs
+packed-through bs h = ap (take 104) (unpacked-packed bs h) ∙ take-all 104 bs h
 
 -- a list cut off, by its two parts
 take-two : (n : ℕ) (xs ys : List ℕ) → take n (xs ++ ys) ≡ take (min (length xs) n) xs ++ take (min (length ys) (n - min (length xs) n)) ys

@@ -1,17 +1,14 @@
 -- The walk through a pool: where its lowest empty slot is, and how many are empty.
-use Prim.Native.Nat.{ℕ, suc, _+_, _<_, _≤_, min}
-use mathlib.Core.Path.{_≡_, refl, sym, ap, ap₂, _∙_}
-use mathlib.Core.Logic.{⊎-elim}
+use Prim.Native.Nat.{ℕ, suc, _+_, _-_, _<_, _≤_, min}
+use mathlib.Core.Path.{_≡_, refl, sym, ap, _∙_}
 use mathlib.Core.List.{List, [], _∷_}
 use mathlib.Core.Bool.{Bool, true, false, cond}
 use native.Mathlib.Omega.{arith}
-use lib.ListN.{length, getD, drop, set}
+use lib.ListN.{length, getD, take, drop, set}
 use lib.Dec.{eqb}
-use Rattle.std.proofs.shelf.Tests.{cases-eq}
-use Rattle.std.proofs.shelf.Lists.{at-drop-more, at-drop-all, drop-all, set-past}
+use Rattle.std.proofs.shelf.Lists.{at-drop-more, at-drop-all, set-past, take-rest}
 use Rattle.frames.specs.declared.slot.Slot.{Slot}
-use Rattle.frames.specs.declared.pool.Room.{Room}
-use Rattle.frames.specs.Slots.{no-slot, free, enter, first-free, room-of}
+use Rattle.frames.specs.Slots.{no-slot, free, enter, first-free}
 
 -- to enter is to write at the lowest empty slot
 pub enter-set : (x : Slot) (pool : List Slot) → enter x pool ≡ set pool (first-free pool) x
@@ -49,54 +46,44 @@ module _ (pool : List Slot) (k : ℕ) (inside : k < length pool) where
 pub past-all : (pool : List Slot) (k : ℕ) → length pool ≤ k → Past pool k → first-free pool ≡ k
 past-all pool k h p = omega (arith, at-drop-all first-free pool k h)
 
-pub enter-here : (x : Slot) (pool : List Slot) (k : ℕ) → first-free pool ≡ k → set pool k x ≡ enter x pool
-enter-here x pool k e = ap (λ i. set pool i x) (sym e) ∙ sym (enter-set x pool)
+-- what is known where the walk ends at k, at the lowest empty slot or behind the last
+pub record Found (pool : List Slot) (k : ℕ) : Type 0 where
+  pub is : k ≡ first-free pool
+  pub inside : k ≤ length pool
+  pub behind : free (take (length pool - k) (drop k pool)) ≡ free pool
+  pub place : (x : Slot) → enter x pool ≡ set pool k x
+  pub full : (x : Slot) → length pool ≤ k → enter x pool ≡ pool
 
-pub enter-none : (x : Slot) (pool : List Slot) (k : ℕ) → length pool ≤ k → Past pool k → pool ≡ enter x pool
-enter-none x pool k h p = sym (set-past pool k x h) ∙ enter-here x pool k (past-all pool k h p)
+-- the slots before k hold frames, so the others hold all that is empty
+pub record Seen (pool : List Slot) (k : ℕ) : Type 0 where
+  pub past : Past pool k
+  pub all : free (drop k pool) ≡ free pool
 
--- what is known of the slots before k
-pub record Seen (pool : List Slot) (lowest empty k : ℕ) : Type 0 where
-  pub few : empty < 3
-  pub counted : empty + free (drop k pool) ≡ free pool
-  pub none : empty ≡ 0 → (lowest ≡ length pool) × Past pool k
-  pub some : (empty ≡ 0 → ⊥) → lowest ≡ first-free pool
+pub seen-none : (pool : List Slot) → Seen pool 0
+seen-none pool = record { past = past-none pool; all = refl }
 
-pub seen-none : (pool : List Slot) → Seen pool (length pool) 0 0
-seen-none pool = record { few = omega arith; counted = omega arith; none = λ _. (refl, past-none pool); some = λ h. absurd (h refl) }
+pub seen-more : (pool : List Slot) (k : ℕ) → k < length pool → eqb (getD pool k no-slot .len) 0 ≡ false → Seen pool k → Seen pool (k + 1)
+seen-more pool k h e s = record { past = past-more pool k h e (s .past); all = omega (arith, s .all, one pool k h false e) }
 
-module _ (pool : List Slot) (lowest empty k : ℕ) (seen : Seen pool lowest empty k) where
-  module _ (inside : k < length pool) where
-    pub seen-more : eqb (getD pool k no-slot .len) 0 ≡ false → Seen pool lowest empty (k + 1)
-    seen-more e = record {
-      few = seen .few;
-      counted = omega (arith, seen .counted, one pool k inside false e);
-      none = λ z. (seen .none z .0, past-more pool k inside e (seen .none z .1));
-      some = seen .some;
-    }
+found : (pool : List Slot) (k : ℕ) → k ≤ length pool → first-free pool ≡ k → Seen pool k → Found pool k
+found pool k to e s =
+    let put : (x : Slot) → enter x pool ≡ set pool k x = λ x. enter-set x pool ∙ ap (λ i. set pool i x) e in
+    record { is = sym e; inside = to; behind = ap free (take-rest pool k) ∙ s .all; place = put; full = λ x h. put x ∙ set-past pool k x h }
 
-    module _ (e : eqb (getD pool k no-slot .len) 0 ≡ true) (low : ℕ) (first : empty ≡ 0 → low ≡ k) (later : (empty ≡ 0 → ⊥) → low ≡ lowest) where
-      low-is : low ≡ first-free pool
-      low-is = ⊎-elim (λ z. first z ∙ sym (past-here pool k inside e (seen .none z .1))) (λ z. later z ∙ seen .some z) (cases-eq empty 0)
+pub found-here : (pool : List Slot) (k : ℕ) → k < length pool → eqb (getD pool k no-slot .len) 0 ≡ true → Seen pool k → Found pool k
+found-here pool k h e s = found pool k (omega arith) (past-here pool k h e (s .past)) s
 
-      left : empty + 1 + free (drop (k + 1) pool) ≡ free pool
-      left = omega (arith, seen .counted, one pool k inside true e)
+pub found-none : (pool : List Slot) → Seen pool (length pool) → Found pool (length pool)
+found-none pool s = found pool (length pool) (omega arith) (past-all pool (length pool) (omega arith) (s .past)) s
 
-      pub seen-one : (empty + 1 ≡ 3 → ⊥) → Seen pool low (empty + 1) (k + 1)
-      seen-one h = record { few = omega (arith, seen .few); counted = left; none = λ z. absurd (omega arith); some = λ _. low-is }
+-- counting up to three
 
-      pub seen-three : empty + 1 ≡ 3 → record { lowest = low; empty = empty + 1 } ≡ room-of pool
-      seen-three h = let m : empty + 1 ≡ min (free pool) 3 = omega (arith, left) in λ i. record { lowest = low-is i; empty = m i }
+abbrev pub Counted : List Slot → ℕ → ℕ → Type 0
+Counted pool count k = (count < 3) × (count + free (drop k pool) ≡ free pool)
 
-      pub place-three : (x : Slot) → enter x pool ≡ set pool low x
-      place-three x = enter-set x pool ∙ ap (λ i. set pool i x) (sym low-is)
+pub counted-more : (pool : List Slot) (count k : ℕ) (b : Bool) → k < length pool → eqb (getD pool k no-slot .len) 0 ≡ b → Counted pool count k
+    → cond b 1 0 + count + free (drop (k + 1) pool) ≡ free pool
+counted-more pool count k b h e c = omega (arith, c .1, one pool k h b e)
 
-  module _ (h : length pool ≤ k) (to : k ≤ length pool) where
-    last-is : lowest ≡ first-free pool
-    last-is = ⊎-elim (λ z. omega (arith, seen .none z .0, past-all pool k h (seen .none z .1))) (λ z. seen .some z) (cases-eq empty 0)
-
-    pub seen-all : record { lowest = lowest; empty = empty } ≡ room-of pool
-    seen-all = let m : empty ≡ min (free pool) 3 = omega (arith, seen .few, seen .counted, at-drop-all free pool k h) in λ i. record { lowest = last-is i; empty = m i }
-
-    pub place-all : (x : Slot) → enter x pool ≡ set pool lowest x
-    place-all x = enter-set x pool ∙ ap (λ i. set pool i x) (sym last-is)
+pub counted-all : (pool : List Slot) (count k : ℕ) → length pool ≤ k → Counted pool count k → count ≡ min (free pool) 3
+counted-all pool count k h c = omega (arith, c .0, c .1, at-drop-all free pool k h)

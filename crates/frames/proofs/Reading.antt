@@ -11,14 +11,14 @@ use Rattle.std.specs.declared.option.Option.{Option}
 use Rattle.std.specs.declared.option.Option.the-variants.{Some, None}
 use Rattle.std.specs.declared.result.Result.{Result}
 use Rattle.std.specs.declared.result.Result.the-variants.{Ok, Err}
-use Rattle.std.proofs.shelf.Tests.{ltb-true, ltb-false, le-leb, lt-leb}
+use Rattle.std.proofs.shelf.Tests.{ltb-true, ltb-false}
 use Rattle.std.proofs.shelf.Lists.{append-assoc, append-nil, drop-all, drop-at, drop-drop, drop-replicate, drop-set-lt, length-append, length-drop, length-set, length-take-le, take-all, take-at, take-append-drop, take-more}
 use Rattle.base.specs.declared.fault.Fault.{Fault}
-use Rattle.base.specs.declared.refusal.Refusal.the-variants.{BadLine, ShortBuffer}
+use Rattle.base.specs.declared.refusal.Refusal.the-variants.{BadLine}
 use Rattle.base.specs.Refusals.{fault-at}
 use Rattle.frames.specs.declared.bytes.FrameBytes.{FrameBytes}
 use Rattle.frames.specs.Frames.{_and_, nibble, digit, first-wrong, unhex, hex, line-fault}
-use Rattle.frames.specs.Packed.{packed, line-read, line-written, digit-read, One-line}
+use Rattle.frames.specs.Packed.{packed, Sized, line-read, One-line}
 use Rattle.frames.proofs.Lines.{wrong-stops, wrong-more, unhex-turn, length-hex, sized-ok, sized-says, line-hex, unhex-hex, hex-of-line}
 use Rattle.frames.proofs.Numbers.{Bytes}
 
@@ -40,12 +40,6 @@ digit-err v place x e = go (ltb v 16) refl e
 
 -- reading
 
--- a line's length is right
-pub record Sized (l : List ℕ) : Type 0 where
-  pub low : 2 ≤ length l
-  pub high : length l ≤ 208
-  pub even : length l % 2 ≡ 0
-
 -- what comes of a line with this fault
 abbrev outcome : List ℕ → Option ℕ → Result FrameBytes Fault
 outcome l o = elim o [ None ↦ Ok (packed (unhex l)) | Some place ↦ Err (fault-at BadLine place) ]
@@ -53,9 +47,9 @@ outcome l o = elim o [ None ↦ Ok (packed (unhex l)) | Some place ↦ Err (faul
 sized-fault : (l : List ℕ) → Sized l → line-fault l ≡ first-wrong 0 l
 sized-fault l s = rw (sized-ok (length l) (s .low) (s .high) (s .even), line-fault) refl
 
-pub read-unsized : (l : List ℕ) (x : Fault) → x ≡ fault-at BadLine (length l) → (Sized l → ⊥) → Err x ≡ line-read l
+pub read-unsized : (l : List ℕ) (x : Fault) → x ≡ fault-at BadLine (length l) → (Sized l → ⊥) → line-read l ≡ Err x
 unfolding line-read
-read-unsized l x is h = ap Err is ∙ sym (ap (outcome l) (go (leb 2 (length l) and leb (length l) 208 and eqb (length l % 2) 0) refl))
+read-unsized l x is h = sym (ap Err is ∙ sym (ap (outcome l) (go (leb 2 (length l) and leb (length l) 208 and eqb (length l % 2) 0) refl)))
   where
     go : (b : Bool) → (leb 2 (length l) and leb (length l) 208 and eqb (length l % 2) 0) ≡ b → line-fault l ≡ Some (length l)
     go true e = let s = sized-says (length l) e in absurd (h (record { low = s .0; high = s .1; even = s .2 }))
@@ -141,16 +135,9 @@ written-more bs buffer out k e h room =
     ∙ sym (ap (λ r. r ++ drop (2 * (k + 1)) buffer) (ap hex (take-more bs k 0 h) ∙ hex-append (take k bs) (getD bs k 0 ∷ []))
     ∙ append-assoc (hex (take k bs)) (x ∷ y ∷ []) (drop (2 * (k + 1)) buffer))
 
-pub written-all : (bs buffer out : List ℕ) → Written bs buffer out (length bs) → 2 * length bs ≤ length buffer → (out, Ok (2 * length bs)) ≡ line-written bs buffer
-unfolding line-written
-written-all bs buffer out e room =
-    let n : 2 * length bs ≡ length (hex bs) = sym (length-hex bs) in
-    let o : out ≡ hex bs ++ drop (length (hex bs)) buffer = e ∙ ap₂ (λ x y. hex x ++ drop y buffer) (take-all (length bs) bs (omega arith)) n in
-    rw (le-leb (length (hex bs)) (length buffer) (omega arith)) (λ i. (o i, Ok (n i)))
-
-pub written-short : (bs buffer : List ℕ) (x : Fault) → x ≡ fault-at ShortBuffer 0 → length buffer / 2 < length bs → (buffer, Err x) ≡ line-written bs buffer
-unfolding line-written
-written-short bs buffer x e h = rw (lt-leb (length (hex bs)) (length buffer) (omega (arith, length-hex bs)), e) refl
+pub written-all : (bs buffer out : List ℕ) (k : ℕ) → Written bs buffer out k → k ≡ length bs → out ≡ hex bs ++ drop (2 * length bs) buffer
+written-all bs buffer out k e h =
+    e ∙ ap (λ n. hex (take n bs) ++ drop (2 * n) buffer) h ∙ ap (λ x. hex x ++ drop (2 * length bs) buffer) (take-all (length bs) bs (omega arith))
 
 -- reading what was written
 
@@ -173,19 +160,5 @@ read-only bs l e = go (line-fault l) refl e
     go None f e = let same : packed (unhex l) ≡ packed bs = cc in sym (hex-of-line l f) ∙ ap hex (packed-once (unhex l) bs same)
     go (Some place) f e = absurd (let z : _≡_ {A = ℕ} 0 1 = cc in omega arith)
 
--- what stands in front of a buffer after a line was written there
-pub line-back : (bs buffer out : List ℕ) (r : Result ℕ Fault) → Bytes bs → (out, r) ≡ line-written bs buffer → (n : ℕ) → r ≡ Ok n → One-line bs (take n out)
-unfolding line-written
-line-back bs buffer out r h e n is = go (leb (length (hex bs)) (length buffer)) e
-  where
-    go : (b : Bool) → _≡_ {A = List ℕ × Result ℕ Fault} (out, r) (cond b (hex bs ++ drop (length (hex bs)) buffer, Ok (length (hex bs))) (buffer, Err (fault-at ShortBuffer 0)))
-        → One-line bs (take n out)
-    go true e =
-        let s : r ≡ Ok (length (hex bs)) = ap (λ (x : List ℕ × Result ℕ Fault). x .1) e in
-        let k : length (hex bs) ≡ n = cc in
-        let o : out ≡ hex bs ++ drop (length (hex bs)) buffer = ap (λ (x : List ℕ × Result ℕ Fault). x .0) e in
-        let line : hex bs ≡ take n out = sym (ap (take n) o ∙ take-at (hex bs) (drop (length (hex bs)) buffer) n k) in
-        record { reads = λ low high. ap line-read (sym line) ∙ read-hex bs h low high; only = λ other f. read-only bs other f ∙ line }
-    go false e =
-        let s : r ≡ Err (fault-at ShortBuffer 0) = ap (λ (x : List ℕ × Result ℕ Fault). x .1) e in
-        absurd (let z : _≡_ {A = ℕ} 0 1 = cc in omega arith)
+pub one-line : (bs : List ℕ) → Bytes bs → One-line bs (hex bs)
+one-line bs h = record { reads = read-hex bs h; only = read-only bs }

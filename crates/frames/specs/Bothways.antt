@@ -4,17 +4,15 @@ use Prim.Native.Nat.{ℕ, _+_, _-_, _^_, _<_, _≤_}
 use mathlib.Core.Path.{_≡_}
 use mathlib.Core.List.{List, _++_, map}
 use lib.ListN.{take, replicate}
-use Rattle.std.specs.declared.result.Result.{Result}
 use Rattle.std.specs.declared.result.Result.the-variants.{Ok}
 use Rattle.std.specs.shelf.Lists.{All}
 use Rattle.base.specs.declared.book.Entry.{Entry}
-use Rattle.base.specs.declared.fault.Fault.{Fault}
 use Rattle.frames.specs.declared.frame.Kind.{Kind}
 use Rattle.frames.specs.declared.frame.Kind.the-variants.{Propose, Decision, Reselect}
 use Rattle.frames.specs.declared.frame.Frame.{Frame}
 use Rattle.frames.specs.Frames.{pairs-of, pair-states}
 use Rattle.frames.specs.Certificates.{Rising, Certificate}
-use Rattle.frames.specs.Typed.{no-pair, plain, listed, stated, pair-stated, encoded}
+use Rattle.frames.specs.Typed.{no-pair, plain, listed, stated, pair-stated, encoded, decoded}
 
 -- a frame is what some bytes say: it is written as they are, as far as eight pairs go, and so are its statements
 pub record Says (f : Frame) (bs : List ℕ) : Type 0 where
@@ -42,16 +40,22 @@ pub record Well-formed (n t batches : ℕ) (f : Frame) : Type 0 where
   pub room : f .pairs .count ≤ 8
   pub blank : f .pairs .each ≡ listed (f .pairs) ++ replicate (8 - f .pairs .count) no-pair
 
--- some bytes decoded as a decision, and every tag of it is right
-pub record Accepted (tag : ℕ → List ℕ → ℕ) (bs : List ℕ) (r : Result Frame Fault) : Type 0 where
+-- some bytes decode as a decision, and every tag of it is right
+pub record Accepted (n t batches : ℕ) (tag : ℕ → List ℕ → ℕ) (bs : List ℕ) : Type 0 where
   pub frame : Frame
-  pub decodes : r ≡ Ok frame
+  pub decodes : decoded n t batches bs ≡ Ok frame
   pub decision : frame .kind ≡ Decision
   pub sender-right : frame .tag ≡ tag (frame .sender) (stated frame)
   pub pairs-right : All (λ p. p .1 ≡ tag (p .0) (pair-stated frame (p .0))) (pairs-of bs)
 
--- for every seal with tags of 64 bits, an accepted decision is a certificate by its own fields, and back
-abbrev pub Certified : ℕ → ℕ → ℕ → List ℕ → Result Frame Fault → Type 0
-Certified n t batches bs r =
-    (tag : ℕ → List ℕ → ℕ) → ((i : ℕ) (s : List ℕ) → tag i s < 2 ^ 64)
-    → (Accepted tag bs r → Certificate n t batches tag bs) × (Certificate n t batches tag bs → Accepted tag bs r)
+-- what holds of some bytes, whatever they are
+pub record Both-ways (n t batches : ℕ) (bs : List ℕ) : Type 0 where
+  -- a frame that they decode as is what they say
+  pub says : (f : Frame) → decoded n t batches bs ≡ Ok f → Says f bs
+  -- for every seal with tags of 64 bits, an accepted decision is a certificate by its own fields, and back
+  pub accepts : (tag : ℕ → List ℕ → ℕ) → ((i : ℕ) (s : List ℕ) → tag i s < 2 ^ 64) → Accepted n t batches tag bs → Certificate n t batches tag bs
+  pub certifies : (tag : ℕ → List ℕ → ℕ) → ((i : ℕ) (s : List ℕ) → tag i s < 2 ^ 64) → Certificate n t batches tag bs → Accepted n t batches tag bs
+
+-- what holds of a frame, whatever it is: it decodes from its bytes wherever it is well formed
+abbrev pub Reads-back : Frame → Type 0
+Reads-back f = (n t batches : ℕ) → Well-formed n t batches f → decoded n t batches (encoded f) ≡ Ok f

@@ -1,7 +1,7 @@
 -- Frames by their fields: the frame that some bytes are, the bytes of a frame, and what its tags seal.
 use Prim.Native.Nat.{ℕ, _+_, _-_, _*_, _^_, _<_, min}
 use mathlib.Core.List.{List, [], _∷_, _++_, map}
-use mathlib.Core.Bool.{Bool, true, false, cond}
+use mathlib.Core.Bool.{Bool, true, cond}
 use lib.ListN.{length, take, drop, replicate}
 use lib.Dec.{eqb, ltb, leb}
 use Rattle.std.specs.declared.option.Option.{Option}
@@ -21,6 +21,7 @@ use Rattle.frames.specs.declared.decode.Head.{Head}
 use Rattle.frames.specs.Bytes.{be8, entry-bytes, statement, proposes, reselects, pair-bytes}
 use Rattle.frames.specs.Frames.{_and_, kind-of, sender-of, batch-of, number-of, count-of, entry-of, tag-of, pairs-of, all-zero, at}
 use Rattle.frames.specs.Certificates.{Fits, malformed}
+use Rattle.frames.specs.Packed.{unpacked, line-read}
 
 abbrev pub kind-number : Kind → ℕ
 kind-number Propose = 1
@@ -89,8 +90,8 @@ head-tests n batches bs =
     ∷ []
 
 abbrev pub count-tests : ℕ → ℕ → ℕ → ℕ → ℕ → List (Bool × ℕ)
-count-tests t kind number count zero =
-    (number-test kind number, 4) ∷ (count-test kind t count, 6) ∷ (eqb zero 0, 7) ∷ []
+count-tests t kind number count spare =
+    (number-test kind number, 4) ∷ (count-test kind t count, 6) ∷ (eqb spare 0, 7) ∷ []
 
 abbrev pub body-tests : ℕ → ℕ → List ℕ → List (Bool × ℕ)
 body-tests kind count bs = (cond (eqb kind 3) (all-zero (take 16 (drop 8 bs))) true, 8) ∷ (eqb (length bs) (32 + 9 * count), length bs) ∷ []
@@ -109,13 +110,20 @@ head-of bs = record {
 unfoldable pub decoded : ℕ → ℕ → ℕ → List ℕ → Result Frame Fault
 decoded n t batches bs = held-to (malformed n t batches bs) (frame-of bs)
 
+-- what decoding a line gives: its own fault, the frame's, or the frame
+abbrev pub line-decoded : ℕ → ℕ → ℕ → List ℕ → Result Frame Fault
+line-decoded n t batches l = elim (line-read l) [ Ok p ↦ decoded n t batches (unpacked p) | Err x ↦ Err x ]
+
 -- the numbers of a statement are of the sizes that it has room for
-pub record Head-fits (sender batch number count : ℕ) (e : Entry) : Type 0 where
+pub record Statement-fits (sender batch number count : ℕ) (e : Entry) : Type 0 where
   pub of-sender : sender < 256
   pub of-batch : batch < 2 ^ 16
   pub of-number : number < 2 ^ 16
   pub of-count : count < 256
   pub of-entry : Fits e
+
+abbrev pub Head-fits : Frame → Type 0
+Head-fits f = Statement-fits (f .sender) (f .batch) (f .number) (f .pairs .count) (f .entry)
 
 -- what the sender's tag seals
 abbrev pub stated : Frame → List ℕ
@@ -129,6 +137,10 @@ pair-stated f q = elim (f .kind) [
   | Reselect ↦ reselects q (f .batch) (f .number)
 ]
 
+-- a frame's statement and tag, and some pairs behind them
+abbrev pub begun : Frame → List Pair → List ℕ
+begun f ps = stated f ++ be8 (f .tag) ++ pair-bytes (map plain ps)
+
 -- the bytes of a frame
 unfoldable pub encoded : Frame → List ℕ
-encoded f = stated f ++ be8 (f .tag) ++ pair-bytes (map plain (listed (f .pairs)))
+encoded f = begun f (listed (f .pairs))

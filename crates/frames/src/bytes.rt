@@ -7,7 +7,7 @@ ghost use lib.Seq.{paste};
 ghost use Rattle.frames.specs.Packed.{packed, unpacked};
 
 // The longest frame has eight pairs.
-const LONGEST: usize = 104;
+pub const LONGEST: usize = 104;
 
 // The first `len` bytes are the frame; a length above 104 is read as 104.
 #[derive(Clone, Copy)]
@@ -26,7 +26,7 @@ fn put(dst: &mut [u8], at: usize, src: &[u8])
 
 impl FrameBytes {
     // Two parts after each other, with zeros behind them; past 104 bytes they are cut off.
-    pub fn join(front: &[u8], back: &[u8]) -> FrameBytes
+    pub(super) fn join(front: &[u8], back: &[u8]) -> FrameBytes
         ensures { λ r. ⌜ r ≡ packed (take 104 (now (front .entry) ++ now (back .entry))) ⌝ }
     {
         let at = front.len().min(LONGEST);
@@ -40,6 +40,7 @@ impl FrameBytes {
         }
     }
 
+    // The bytes of a slice, as many as there is room for.
     pub fn of(frame: &[u8]) -> FrameBytes
         ensures { λ r. ⌜ r ≡ packed (take 104 (now (frame .entry))) ⌝ }
     {

@@ -2,21 +2,25 @@
 ghost use mathlib.Core.Path.{_≡_};
 ghost use Prim.Native.Nat.{ℕ, _+_, _*_, _≤_};
 ghost use lib.ListN.{length};
+ghost use Rattle.std.specs.Results.{Cases};
 ghost use Rattle.std.specs.Vec.{made};
+ghost use Rattle.std.specs.declared.result.Result.the-variants.{Ok, Err};
 ghost use Rattle.base.specs.Refusals.{fault-at};
 ghost use Rattle.base.specs.declared.refusal.Refusal.the-variants.{Malformed};
 ghost use Rattle.frames.specs.Frames.{first-fault, all-zero, num4, num8, rising-tests, pairs-from, entry-of};
-ghost use Rattle.frames.specs.Typed.{kind-number, kind-named, number-test, count-test, held-to, head-tests, count-tests, body-tests, head-of, holding, decoded};
-ghost use Rattle.frames.specs.Bothways.{Says, Certified};
+ghost use Rattle.frames.specs.Typed.{kind-number, kind-named, number-test, count-test, held-to, head-tests, count-tests, body-tests, head-of, holding, frame-of, decoded, line-decoded};
+ghost use Rattle.frames.specs.Bothways.{Both-ways};
 use super::frame::Frame;
 use super::frame::Kind;
+use super::frame::NO_PAIR;
 use super::frame::Pair;
 use super::frame::Pairs;
+use super::line::read_line;
 use base::book::Entry;
 use base::fault::Fault;
 use base::refusal::Refusal;
 
-// The highest committee number.
+// The highest committee number that a reselect may call up.
 const LAST_NUMBER: u16 = 20_000;
 
 // The first eight bytes.
@@ -195,7 +199,7 @@ fn read_pairs(count: u8, bytes: &[u8]) -> Pairs
     requires { ⌜ length (now bytes) ≡ 32 + 9 * count ⌝ }
     ensures { λ r. ⌜ r ≡ holding count (pairs-from count 32 (now (bytes .entry))) ⌝ }
 {
-    let mut each = [Pair { station: 0, tag: 0 }; 8];
+    let mut each = [NO_PAIR; 8];
     for k in 0..count.min(8) as usize {
         let place = 32 + 9 * k;
         each[k] = Pair {
@@ -206,17 +210,25 @@ fn read_pairs(count: u8, bytes: &[u8]) -> Pairs
     Pairs { count, each }
 }
 
-// The frame that some bytes are, for n stations of which t may be faulty and a number of batches.
-pub fn decode(n: u32, t: u32, batches: u32, bytes: &[u8]) -> Result<Frame, Fault>
-    ensures is { λ r. ⌜ r ≡ decoded n t batches (now (bytes .entry)) ⌝ }
-    ensures says { λ r. ⌜ made r (λ f. Says f (now (bytes .entry))) ⌝ }
-    ensures certified { λ r. ⌜ Certified n t batches (now (bytes .entry)) r ⌝ }
+// The head of a frame that passes every test, in their order.
+fn check_form(n: u32, t: u32, batches: u32, bytes: &[u8]) -> Result<Head, Fault>
+    ensures is { λ r. ⌜ Cases r (λ h. (h ≡ head-of (now (bytes .entry))) × (decoded n t batches (now (bytes .entry)) ≡ Ok (frame-of (now (bytes .entry))))) (λ x. decoded n t batches (now (bytes .entry)) ≡ Err x) ⌝ }
+    ensures long { λ r. ⌜ made r (λ h. length (now (bytes .entry)) ≡ 32 + 9 * h .count) ⌝ }
+    ensures both { λ _. ⌜ Both-ways n t batches (now (bytes .entry)) ⌝ }
 {
     let head = read_head(n, batches, bytes)?;
     check_counts(t, &head)?;
     check_body(&head, bytes)?;
     check_pairs(n, head.count, bytes)?;
-    Ok(Frame {
+    Ok(head)
+}
+
+fn read_frame(head: Head, bytes: &[u8]) -> Frame
+    requires is { ⌜ head ≡ head-of (now bytes) ⌝ }
+    requires long { ⌜ length (now bytes) ≡ 32 + 9 * head .count ⌝ }
+    ensures { λ r. ⌜ r ≡ frame-of (now (bytes .entry)) ⌝ }
+{
+    Frame {
         kind: head.kind,
         sender: head.sender,
         batch: head.batch,
@@ -224,5 +236,23 @@ pub fn decode(n: u32, t: u32, batches: u32, bytes: &[u8]) -> Result<Frame, Fault
         entry: read_entry(bytes),
         tag: tag_at(bytes, 24),
         pairs: read_pairs(head.count, bytes),
-    })
+    }
+}
+
+// The frame that some bytes are, for n stations of which t may be faulty and a number of batches. Of
+// more than eight pairs the first eight are kept.
+pub fn decode(n: u32, t: u32, batches: u32, bytes: &[u8]) -> Result<Frame, Fault>
+    ensures is { λ r. ⌜ r ≡ decoded n t batches (now (bytes .entry)) ⌝ }
+    ensures both { λ _. ⌜ Both-ways n t batches (now (bytes .entry)) ⌝ }
+{
+    let head = check_form(n, t, batches, bytes)?;
+    Ok(read_frame(head, bytes))
+}
+
+// The frame that a line stands for; a fault of the line or of the frame goes up as it is.
+pub fn decode_line(n: u32, t: u32, batches: u32, line: &[u8]) -> Result<Frame, Fault>
+    ensures { λ r. ⌜ r ≡ line-decoded n t batches (now (line .entry)) ⌝ }
+{
+    let frame = read_line(line)?;
+    decode(n, t, batches, frame.as_slice())
 }

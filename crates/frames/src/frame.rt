@@ -3,7 +3,7 @@ ghost use mathlib.Core.Path.{_≡_};
 ghost use Prim.Native.Nat.{min};
 ghost use lib.ListN.{length};
 ghost use Rattle.frames.specs.Bytes.{statement, entry-bytes};
-ghost use Rattle.frames.specs.Typed.{Head-fits, kind-number, listed, stated, pair-stated};
+ghost use Rattle.frames.specs.Typed.{Statement-fits, Head-fits, kind-number, listed, stated, pair-stated};
 use base::book::Entry;
 
 // What a frame says, by its number.
@@ -43,8 +43,11 @@ pub struct Frame {
     pub pairs: Pairs,
 }
 
+// What stands where there is no pair.
+pub const NO_PAIR: Pair = Pair { station: 0, tag: 0 };
+
 // An entry that says nothing.
-const NO_ENTRY: Entry = Entry {
+pub const NO_ENTRY: Entry = Entry {
     grower: 0,
     amount: 0,
     carry: 0,
@@ -72,7 +75,7 @@ impl Pairs {
 // The 24 bytes that a tag seals.
 fn state(kind: Kind, sender: u8, batch: u16, number: u16, count: u8, e: Entry) -> [u8; 24]
     ensures is { λ r. ⌜ r ≡ statement (kind-number kind) sender batch number count (entry-bytes e) ⌝ }
-    ensures fits { λ _. ⌜ Head-fits sender batch number count e ⌝ }
+    ensures fits { λ _. ⌜ Statement-fits sender batch number count e ⌝ }
 {
     let [b1, b0] = batch.to_be_bytes();
     let [n1, n0] = number.to_be_bytes();
@@ -112,7 +115,7 @@ impl Frame {
     // What the sender's tag seals.
     pub fn statement(&self) -> [u8; 24]
         ensures is { λ r. ⌜ r ≡ stated (now (self .entry)) ⌝ }
-        ensures fits { λ _. ⌜ Head-fits (now (self .entry) .sender) (now (self .entry) .batch) (now (self .entry) .number) (now (self .entry) .pairs .count) (now (self .entry) .entry) ⌝ }
+        ensures fits { λ _. ⌜ Head-fits (now (self .entry)) ⌝ }
     {
         state(
             self.kind,

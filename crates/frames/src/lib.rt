@@ -6,3 +6,5 @@ pub mod frame;
 pub mod line;
 pub mod pool;
 pub mod slot;
+#[cfg(test)]
+mod tests;

@@ -1,10 +1,13 @@
 // A frame as a line of lower-case hexadecimal digits.
 ghost use mathlib.Core.Path.{_≡_};
-ghost use Prim.Native.Nat.{ℕ, _<_};
-ghost use lib.ListN.{length, take};
-ghost use Rattle.std.specs.declared.result.Result.the-variants.{Ok};
-ghost use Rattle.frames.specs.Frames.{digit as «digit-of»};
-ghost use Rattle.frames.specs.Packed.{digit-read, line-read, line-written, One-line};
+ghost use mathlib.Core.List.{_++_};
+ghost use Prim.Native.Nat.{_*_, _<_, _≤_};
+ghost use lib.ListN.{length, drop};
+ghost use Rattle.std.specs.Results.{Cases};
+ghost use Rattle.std.specs.Vec.{made};
+ghost use Rattle.std.specs.declared.result.Result.the-variants.{Err};
+ghost use Rattle.frames.specs.Frames.{hex, digit as «digit-of»};
+ghost use Rattle.frames.specs.Packed.{Sized, digit-read, line-read, line-written, One-line};
 use super::bytes::FrameBytes;
 use base::fault::Fault;
 use base::refusal::Refusal;
@@ -21,22 +24,37 @@ fn digit_at(line: &[u8], place: usize) -> Result<u8, Fault>
     }
 }
 
-// The bytes that a line stands for.
-pub fn read_line(line: &[u8]) -> Result<FrameBytes, Fault>
-    ensures { λ r. ⌜ r ≡ line-read (now (line .entry)) ⌝ }
+fn check_length(line: &[u8]) -> Result<(), Fault>
+    ensures { λ r. ⌜ Cases r (λ _. Sized (now (line .entry))) (λ x. line-read (now (line .entry)) ≡ Err x) ⌝ }
 {
     let digits = line.len();
     if digits < 2 || 208 < digits || digits % 2 != 0 {
         return Err(Fault::new(Refusal::BadLine, digits));
     }
+    Ok(())
+}
+
+fn read_digits(line: &[u8]) -> Result<FrameBytes, Fault>
+    requires { ⌜ Sized (now line) ⌝ }
+    ensures { λ r. ⌜ r ≡ line-read (now (line .entry)) ⌝ }
+{
+    let len = line.len() / 2;
     let mut bytes = [0u8; 104];
-    for k in 0..digits / 2 {
+    for k in 0..len {
         bytes[k] = digit_at(line, 2 * k)? * 16 + digit_at(line, 2 * k + 1)?;
     }
     Ok(FrameBytes {
-        len: (digits / 2) as u32,
+        len: len as u32,
         bytes,
     })
+}
+
+// The bytes that a line stands for.
+pub fn read_line(line: &[u8]) -> Result<FrameBytes, Fault>
+    ensures { λ r. ⌜ r ≡ line-read (now (line .entry)) ⌝ }
+{
+    check_length(line)?;
+    read_digits(line)
 }
 
 // The digit of a value below sixteen.
@@ -51,17 +69,25 @@ fn digit(value: u8) -> u8
     }
 }
 
-// Writes the line of some bytes in front of the buffer and answers its length; what lies behind stays.
-pub fn write_line(frame: &[u8], buffer: &mut [u8]) -> Result<usize, Fault>
-    ensures is { λ r. ⌜ (now (buffer .exit), r) ≡ line-written (now (frame .entry)) (now (buffer .entry)) ⌝ }
-    ensures back { λ r. ⌜ ((n : ℕ) → r ≡ Ok n → One-line (now (frame .entry)) (take n (now (buffer .exit)))) ⌝ }
+fn write_digits(frame: &[u8], buffer: &mut [u8])
+    requires { ⌜ 2 * length (now frame) ≤ length (now buffer) ⌝ }
+    ensures is { λ _. ⌜ now (buffer .exit) ≡ hex (now (frame .entry)) ++ drop (2 * length (now (frame .entry))) (now (buffer .entry)) ⌝ }
+    ensures one { λ _. ⌜ One-line (now (frame .entry)) (hex (now (frame .entry))) ⌝ }
 {
-    if buffer.len() / 2 < frame.len() {
-        return Err(Fault::new(Refusal::ShortBuffer, 0));
-    }
     for (k, byte) in frame.iter().enumerate() {
         buffer[2 * k] = digit(byte / 16);
         buffer[2 * k + 1] = digit(byte % 16);
     }
+}
+
+// Writes the line of some bytes in front of the buffer and answers its length; what lies behind stays.
+pub fn write_line(frame: &[u8], buffer: &mut [u8]) -> Result<usize, Fault>
+    ensures is { λ r. ⌜ (now (buffer .exit), r) ≡ line-written (now (frame .entry)) (now (buffer .entry)) ⌝ }
+    ensures back { λ r. ⌜ made r (λ _. One-line (now (frame .entry)) (hex (now (frame .entry)))) ⌝ }
+{
+    if buffer.len() / 2 < frame.len() {
+        return Err(Fault::new(Refusal::ShortBuffer, 0));
+    }
+    write_digits(frame, buffer);
     Ok(2 * frame.len())
 }

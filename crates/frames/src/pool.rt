@@ -1,7 +1,8 @@
 // Where frames wait to be delivered: a row of slots that the caller lends.
 ghost use mathlib.Core.Path.{_≡_};
-ghost use lib.ListN.{set};
-ghost use Rattle.frames.specs.Slots.{enter as entered, room-of};
+ghost use Prim.Native.Nat.{_-_, _≤_, min};
+ghost use lib.ListN.{length, take, drop, set};
+ghost use Rattle.frames.specs.Slots.{free, first-free, enter as entered, room-of};
 ghost use Rattle.frames.specs.declared.slot.Slot.{Slot as AnySlot};
 use super::slot::Slot;
 
@@ -13,36 +14,57 @@ pub struct Room {
     pub empty: u8,
 }
 
-// Looks no further than the third free slot.
+// The place of the lowest free slot, or the pool's length.
+fn lowest_free(pool: &[Slot]) -> usize
+    ensures is { λ r. ⌜ r ≡ first-free (now (pool .entry)) ⌝ }
+    ensures inside { λ r. ⌜ r ≤ length (now (pool .entry)) ⌝ }
+    ensures behind { λ r. ⌜ free (take (length (now (pool .entry)) - r) (drop r (now (pool .entry)))) ≡ free (now (pool .entry)) ⌝ }
+    ensures place { λ r. ⌜ ((x : AnySlot) → entered x (now (pool .entry)) ≡ set (now (pool .entry)) r x) ⌝ }
+    ensures full { λ r. ⌜ ((x : AnySlot) → length (now (pool .entry)) ≤ r → entered x (now (pool .entry)) ≡ now (pool .entry)) ⌝ }
+{
+    for (k, slot) in pool.iter().enumerate() {
+        if slot.is_free() {
+            return k;
+        }
+    }
+    pool.len()
+}
+
+// How many slots are free; three are enough to know.
+fn count_free(pool: &[Slot]) -> u8
+    ensures { λ r. ⌜ r ≡ min (free (now (pool .entry))) 3 ⌝ }
+{
+    let mut count = 0;
+    for slot in pool {
+        if !slot.is_free() {
+            continue;
+        }
+        count += 1;
+        if count == 3 {
+            break;
+        }
+    }
+    count
+}
+
+// One pass: the count goes on where the search stopped, and no further than the third free slot.
 pub fn find_room(pool: &[Slot]) -> Room
     ensures is { λ r. ⌜ r ≡ room-of (now (pool .entry)) ⌝ }
     ensures place { λ r. ⌜ ((x : AnySlot) → entered x (now (pool .entry)) ≡ set (now (pool .entry)) (r .lowest) x) ⌝ }
 {
-    let mut lowest = pool.len();
-    let mut empty = 0;
-    for (k, slot) in pool.iter().enumerate() {
-        if !slot.is_free() {
-            continue;
-        }
-        if empty == 0 {
-            lowest = k;
-        }
-        empty += 1;
-        if empty == 3 {
-            return Room { lowest, empty };
-        }
+    let lowest = lowest_free(pool);
+    Room {
+        lowest,
+        empty: count_free(&pool[lowest..]),
     }
-    Room { lowest, empty }
 }
 
 // A frame goes into the lowest free slot; where none is free, nothing changes.
 pub fn enter(pool: &mut [Slot], frame: Slot)
     ensures { λ _. ⌜ now (pool .exit) ≡ entered frame (now (pool .entry)) ⌝ }
 {
-    for slot in pool.iter_mut() {
-        if slot.is_free() {
-            *slot = frame;
-            return;
-        }
+    let place = lowest_free(pool);
+    if place < pool.len() {
+        pool[place] = frame;
     }
 }

@@ -4,6 +4,7 @@ ghost use lib.Dec.{eqb};
 ghost use lib.ListN.{take};
 ghost use Rattle.frames.specs.Slots.{framed, slot-of};
 use super::bytes::FrameBytes;
+use super::bytes::LONGEST;
 
 // A length of 0 is no frame, and one above 104 is read as 104; `by` is 0 for a step of a station and
 // 1 for what came from outside.
@@ -33,7 +34,7 @@ impl Slot {
     pub fn frame(&self) -> &[u8]
         ensures { λ r. ⌜ now r ≡ framed (now (self .entry)) ⌝ }
     {
-        let len = (self.len as usize).min(104);
+        let len = (self.len as usize).min(LONGEST);
         &self.bytes[0..len]
     }
 

@@ -1,5 +1,4 @@
-use mathlib.Core.Path.{_≡_, sym, _∙_}
-use native.Mathlib.Omega.{arith}
+use mathlib.Core.Path.{sym, _∙_}
 use Rattle.frames.specs.Frames.{all-zero}
 use Rattle.std.proofs.shelf.Lists.{at-drop-all}
 use Rattle.frames.proofs.Decoding.{blank-stops, blank-more}

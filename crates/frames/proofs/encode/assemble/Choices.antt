@@ -4,8 +4,8 @@ use lib.ListN.{take}
 use Rattle.std.specs.shelf.Lists.{All}
 use Rattle.frames.specs.declared.frame.Pair.{Pair}
 use Rattle.frames.specs.Packed.{packed}
-use Rattle.frames.proofs.Encoding.{begun}
-use Rattle.frames.proofs.encode.encode.Given as given
+use Rattle.frames.specs.Typed.{begun}
+use Rattle.frames.proofs.encode.assemble.Given as given
 
 abbrev pub Inv-loop-pair : given.InvT-loop-pair
 Inv-loop-pair l =

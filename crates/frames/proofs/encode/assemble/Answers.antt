@@ -1,15 +1,14 @@
 use Prim.Native.Nat.{_<_, _^_}
-use native.Mathlib.Omega.{arith}
 use Rattle.std.proofs.shelf.Elements.{all-more}
 use Rattle.frames.specs.declared.frame.Pair.{Pair}
 use Rattle.frames.specs.Typed.{no-pair}
-use Rattle.frames.proofs.Encoding.{encode-first, encode-more, encode-all, few-listed}
+use Rattle.frames.proofs.Encoding.{encode-first, encode-more, encode-all, few-listed, short-encoded}
 use Rattle.frames.proofs.Bothways.{encode-back}
-use Rattle.frames.proofs.encode.encode.Needs as need
+use Rattle.frames.proofs.encode.assemble.Needs as need
 
 pub loop-pair-holds : need.loop-pair-holds
 loop-pair-holds c =
-    (encode-first (c .args .frame .now) (c .statement .result) (c .write-tag .result) (c .join-bytes .result) (c .statement .ensures .is) (c .write-tag .ensures .is) (c .join-bytes .ensures), tt)
+    (encode-first (c .args .frame .now) (c .args .statement .now) (c .args .tag .now) (c .join-bytes .result) (c .pre .states) (c .pre .sealed) (c .join-bytes .ensures), tt)
 
 pub loop-pair-again : need.loop-pair-again
 loop-pair-again c = (
@@ -25,6 +24,7 @@ returns c =
     encode-all (c .args .frame .now) (c .as-slice-pairs .result .now) (c .loop-pair .pair-index) (c .loop-pair .bytes) (c .as-slice-pairs .ensures .is) (c .loop-pair-test .left) (c .loop-pair .inv .0) in
     record {
       is = is;
-      back = encode-back (c .args .frame .now) (c .as-slice-pairs .result .now) (c .loop-pair .pair-index) (c .loop-pair .bytes) (c .as-slice-pairs .ensures .is) (c .as-slice-pairs .ensures .size) (c .loop-pair-test .left)
-          (c .statement .ensures .fits) (c .write-tag .ensures .fits) (c .loop-pair .inv .1) is;
+      short = short-encoded (c .args .frame .now) (c .as-slice-pairs .result .now) (c .as-slice-pairs .ensures .is);
+      back = encode-back (c .args .frame .now) (c .as-slice-pairs .result .now) (c .loop-pair .pair-index) (c .as-slice-pairs .ensures .is) (c .as-slice-pairs .ensures .size) (c .loop-pair-test .left)
+          (c .pre .fits) (c .pre .small) (c .loop-pair .inv .1);
     }
