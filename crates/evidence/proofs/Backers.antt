@@ -10,21 +10,17 @@ use lib.Dec.{leb}
 use Rattle.std.specs.declared.option.Option.{Option}
 use Rattle.std.specs.declared.option.Option.the-variants.{Some, None}
 use Rattle.std.specs.shelf.Lists.{countBy}
-use Rattle.std.proofs.shelf.Tests.{both-ways, le-leb, lt-leb}
+use Rattle.std.proofs.shelf.Tests.{leb-true}
 use Rattle.std.proofs.shelf.Lists.{append-assoc, append-nil, length-append, length-map, length-take, length-take-le, set-at, take-all, take-append-drop, take-append-le, take-at, take-more, take-take, map-append}
 use Rattle.std.proofs.shelf.Sums.{countBy-le-length, sumBy-cons}
 use Rattle.base.specs.declared.book.Entry.{Entry}
 use Rattle.frames.specs.declared.frame.Pair.{Pair}
 use Rattle.frames.specs.declared.frame.Pairs.{Pairs}
-use Rattle.frames.specs.Typed.{no-pair, pair-at, holding}
+use Rattle.frames.specs.Typed.{no-pair, pair-at, plain, listed, holding}
 use Rattle.frames.proofs.Packed.{take-least}
 use Rattle.protocol.specs.declared.station.Vote.{Vote}
-use Rattle.protocol.specs.Steps.{same-entry, backers}
-use Rattle.evidence.specs.Votes.{is-for, support-of, lowest-of, quorum-of}
-
--- what a vote on entries backs
-abbrev pub backs-entry : Vote → Entry → Bool
-backs-entry v e = same-entry (v .entry) e
+use Rattle.protocol.specs.Steps.{backers}
+use Rattle.evidence.specs.Votes.{is-for, support-of, backs-entry, lowest-of, quorum-of}
 
 -- one station
 backers-yes : (e : Entry) (q : ℕ) (v : Vote) (vs : List (Option Vote)) → backs-entry v e ≡ true → backers e q (Some v ∷ vs) ≡ (q, v .tag) ∷ backers e (q + 1) vs
@@ -167,16 +163,39 @@ gathered-all e vs q filled size each full enough g =
     g .pairs ∙ ap₂ (λ r k. map pair-at r ++ replicate (8 - k) no-pair) (sym cut) (g .count ∙ sym (length-map _ pair-at ∙ ap length cut)) in
     λ i. record { count = size; each = all i }
 
--- the quorum, where it is reached and where it is not
-pub quorum-yes : (e : Entry) (vs : List (Option Vote)) (n size s : ℕ) (r : Pairs) → s ≡ support-of backs-entry e (take n vs) → size ≤ s → r ≡ lowest-of size (backers e 0 vs)
-    → Some r ≡ quorum-of size (backers e 0 (take n vs))
-quorum-yes e vs n size s r counted h is =
-    let bs : List (ℕ × ℕ) = backers e 0 (take n vs) in
-    let enough : size ≤ length bs = omega (arith, support-backers e 0 (take n vs)) in
-    ap Some (is ∙ ap (holding size) (take-backers e n size vs enough)) ∙ sym (ap (λ b. cond b (Some (lowest-of size bs)) None) (le-leb size (length bs) enough))
+-- the pairs of at most eight are those stations
+pair-plain : (ps : List (ℕ × ℕ)) → map plain (map pair-at ps) ≡ ps
+pair-plain [] = refl
+pair-plain (p ∷ ps) = ap (λ r. p ∷ r) (pair-plain ps)
 
-pub quorum-no : (e : Entry) (vs : List (Option Vote)) (n size s : ℕ) → s ≡ support-of backs-entry e (take n vs) → s < size → None ≡ quorum-of size (backers e 0 (take n vs))
-quorum-no e vs n size s counted h =
-    let bs : List (ℕ × ℕ) = backers e 0 (take n vs) in
-    let few : length bs < size = omega (arith, support-backers e 0 (take n vs)) in
-    sym (ap (λ b. cond b (Some (lowest-of size bs)) None) (lt-leb size (length bs) few))
+pub lowest-lists : (size : ℕ) (bs : List (ℕ × ℕ)) → size ≤ 8 → size ≤ length bs → map plain (listed (lowest-of size bs)) ≡ take size bs
+lowest-lists size bs few enough =
+    let xs : List (ℕ × ℕ) = take size bs in
+    let long : length xs ≡ size = length-take-le size bs enough in
+    let all : take 8 xs ≡ xs = take-all 8 xs (omega arith) in
+    let least : min size 8 ≡ size = omega arith in
+    let size-is : length (map pair-at (take 8 xs)) ≡ min size 8 = length-map (take 8 xs) pair-at ∙ ap length all ∙ long ∙ sym least in
+    ap (map plain) (take-at (map pair-at (take 8 xs)) (replicate (8 - length (map pair-at (take 8 xs))) no-pair) (min size 8) size-is)
+    ∙ pair-plain (take 8 xs) ∙ all
+
+-- the quorum, where it is reached and where it is not
+module _ (e : Entry) (vs : List (Option Vote)) (n size : ℕ) where
+  abbrev reached : Bool
+  reached = leb size (support-of backs-entry e (take n vs))
+
+  abbrev answer : Bool → Option Pairs
+  answer b = cond b (Some (lowest-of size (backers e 0 (take n vs)))) None
+
+  quorum-is : quorum-of size (backers e 0 (take n vs)) ≡ answer reached
+  quorum-is = ap (λ k. answer (leb size k)) (sym (support-backers e 0 (take n vs)))
+
+  pub quorum-enough : true ≡ reached → size ≤ length (backers e 0 vs)
+  quorum-enough h = omega (arith, leb-true size (support-of backs-entry e (take n vs)) (sym h), support-backers e 0 (take n vs), fewer-backers e n vs)
+
+  pub quorum-yes : (r : Pairs) → true ≡ reached → r ≡ lowest-of size (backers e 0 vs) → Some r ≡ quorum-of size (backers e 0 (take n vs))
+  quorum-yes r h is =
+      let enough : size ≤ length (backers e 0 (take n vs)) = omega (arith, leb-true size (support-of backs-entry e (take n vs)) (sym h), support-backers e 0 (take n vs)) in
+      ap Some (is ∙ ap (holding size) (take-backers e n size vs enough)) ∙ ap answer h ∙ sym quorum-is
+
+  pub quorum-no : false ≡ reached → None ≡ quorum-of size (backers e 0 (take n vs))
+  quorum-no h = ap answer h ∙ sym quorum-is

@@ -1,24 +1,23 @@
 -- The definitions that the contracts here cite are those of the protocol's tests and steps.
-use Prim.Native.Nat.{ℕ, _+_}
-use mathlib.Core.Path.{_≡_, refl, sym, ap, ap₂, _∙_}
-use mathlib.Core.List.{List, map}
+use Prim.Native.Nat.{ℕ}
+use mathlib.Core.Path.{_≡_, refl}
+use mathlib.Core.List.{List}
 use lib.ListN.{length, take}
 use Rattle.base.specs.declared.book.Entry.{Entry}
 use Rattle.frames.specs.declared.frame.Frame.{Frame}
-use Rattle.frames.specs.declared.frame.Pairs.{Pairs}
 use Rattle.frames.specs.declared.slot.Slot.{Slot}
 use Rattle.frames.specs.Slots.{enter, slot-of}
-use Rattle.frames.specs.Typed.{plain, listed, stated}
+use Rattle.frames.specs.Typed.{stated}
 use Rattle.protocol.specs.declared.station.Station.{Station}
 use Rattle.protocol.specs.Law.{Terms}
-use Rattle.protocol.specs.Steps.{backers, support}
+use Rattle.protocol.specs.Steps.{support}
 use Rattle.protocol.specs.Desk.{own-vote, sent}
 use Rattle.protocol.specs.Ready.{pairs-in, sender-right, pair-right, rightly-from, pair-leaves, forged-at}
-use Rattle.evidence.specs.Votes.{support-of, lowest-of, entry-held}
+use Rattle.evidence.specs.Votes.{support-of, backs-entry, entry-held}
 use Rattle.evidence.specs.Issue.{sealed-bytes}
 use Rattle.evidence.specs.Tags.{sender-tagged, pair-tagged, rightly-by, pair-left}
 use Rattle.evidence.specs.Forgery.{forged-in}
-use Rattle.evidence.proofs.Backers.{backs-entry, support-backers}
+use Rattle.evidence.proofs.Backers.{support-backers}
 
 module _ (d : Terms) where
   pub sender-right-is : sender-right d ≡ sender-tagged (d .tag)

@@ -11,7 +11,7 @@ use Rattle.base.specs.declared.book.Entry.{Entry}
 use Rattle.frames.specs.declared.frame.Pairs.{Pairs}
 use Rattle.frames.specs.Typed.{holding}
 use Rattle.protocol.specs.declared.station.Vote.{Vote}
-use Rattle.protocol.specs.Steps.{no-entry}
+use Rattle.protocol.specs.Steps.{no-entry, same-entry}
 
 -- there is a vote, and it is for the subject
 abbrev pub is-for : {V S : Type 0} → (V → S → Bool) → S → Option V → Bool
@@ -21,6 +21,10 @@ is-for backs what (Some v) = backs v what
 -- how many of some stations back a subject
 abbrev pub support-of : {V S : Type 0} → (V → S → Bool) → S → List (Option V) → ℕ
 support-of backs what votes = countBy (is-for backs what) votes
+
+-- a vote on entries is for the entry that it holds
+abbrev pub backs-entry : Vote → Entry → Bool
+backs-entry v e = same-entry (v .entry) e
 
 -- the lowest `size` of the stations that back an entry, with their tags; eight of them where they are more
 abbrev pub lowest-of : ℕ → List (ℕ × ℕ) → Pairs

@@ -2,9 +2,10 @@
 ghost use mathlib.Core.Path.{_≡_};
 ghost use mathlib.Core.Bool.{Bool};
 ghost use Prim.Native.Nat.{ℕ, _≤_};
+ghost use lib.Dec.{leb};
 ghost use lib.ListN.{length, take};
 ghost use Rattle.protocol.specs.Steps.{same-entry, backers};
-ghost use Rattle.evidence.specs.Votes.{is-for, support-of, lowest-of, quorum-of, entry-held};
+ghost use Rattle.evidence.specs.Votes.{is-for, support-of, backs-entry, lowest-of, quorum-of, entry-held};
 use base::book::Entry;
 use base::book::EntryPartialEq;
 use frames::frame::Pair;
@@ -39,7 +40,7 @@ pub trait Ballot {
 pub impl Ballot for Vote as VoteBallot {
     type Subject = Entry;
 
-    ghost backs = { λ v e. same-entry (v .entry) e };
+    ghost backs = { backs-entry };
 
     fn is_for(&self, what: &Entry) -> bool {
         same_entry(self.entry, *what)
@@ -70,6 +71,13 @@ pub fn support<V: Ballot>(votes: &[Option<V>; 16], n: u32, what: &V::Subject) ->
         }
     }
     stations
+}
+
+// Whether at least `size` of the first n stations vote for an entry.
+fn is_reached(votes: &[Option<Vote>; 16], n: u32, size: u32, entry: Entry) -> bool
+    ensures { λ r. ⌜ r ≡ leb size (support-of backs-entry entry (take n (now (votes .entry)))) ⌝ }
+{
+    size <= support(votes, n, &entry)
 }
 
 // The lowest stations that vote for an entry, with their tags, where there are as many as asked for.
@@ -105,11 +113,10 @@ fn lowest(votes: &[Option<Vote>; 16], size: u32, what: Entry) -> Pairs
 pub fn quorum(votes: &[Option<Vote>; 16], n: u32, size: u32, entry: Entry) -> Option<Pairs>
     ensures { λ r. ⌜ r ≡ quorum-of size (backers entry 0 (take n (now (votes .entry)))) ⌝ }
 {
-    if size <= support(votes, n, &entry) {
-        Some(lowest(votes, size, entry))
-    } else {
-        None
+    if !is_reached(votes, n, size, entry) {
+        return None;
     }
+    Some(lowest(votes, size, entry))
 }
 
 // The entry of station i's vote; zeros where there is no vote.
