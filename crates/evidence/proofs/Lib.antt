@@ -1,0 +1,4 @@
+pub mod Backers
+pub mod Issues
+pub mod Search
+pub mod Meets

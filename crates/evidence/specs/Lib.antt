@@ -1,0 +1,4 @@
+pub mod Votes
+pub mod Issue
+pub mod Tags
+pub mod Forgery
