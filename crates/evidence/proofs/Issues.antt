@@ -1,8 +1,7 @@
 -- What is issued: the bytes of a sealed frame, none of which is cut off.
-use Prim.Native.Nat.{ℕ, _+_, _*_, _≤_}
+use Prim.Native.Nat.{ℕ, _≤_}
 use mathlib.Core.Path.{_≡_, refl, sym, ap, _∙_}
 use mathlib.Core.List.{List, _++_, map}
-use native.Mathlib.Omega.{arith}
 use lib.ListN.{length, take}
 use Rattle.std.proofs.shelf.Lists.{take-all}
 use Rattle.frames.specs.declared.bytes.FrameBytes.{FrameBytes}
@@ -11,7 +10,7 @@ use Rattle.frames.specs.declared.slot.Slot.{Slot}
 use Rattle.frames.specs.Packed.{packed, unpacked}
 use Rattle.frames.specs.Slots.{enter, slot-of}
 use Rattle.frames.specs.Typed.{listed, stated, encoded}
-use Rattle.frames.proofs.Encoding.{begun, length-begun, few-listed}
+use Rattle.frames.proofs.Encoding.{short-encoded}
 use Rattle.frames.proofs.Packed.{unpacked-packed}
 use Rattle.evidence.specs.Issue.{sealed-bytes}
 
@@ -20,8 +19,7 @@ abbrev pub with-tag : ℕ → Frame → Frame
 with-tag tag f = record { kind = f .kind; sender = f .sender; batch = f .batch; number = f .number; entry = f .entry; tag = tag; pairs = f .pairs }
 
 short : (f : Frame) → length (encoded f) ≤ 104
-unfolding encoded
-short f = omega (arith, length-begun f (listed (f .pairs)), few-listed f (listed (f .pairs)) refl)
+short f = short-encoded f (listed (f .pairs)) refl
 
 -- what `issue` enters
 pub issued-row : (tag : ℕ → List ℕ → ℕ) (f : Frame) (given : ℕ) (bytes : FrameBytes) (part : List ℕ) (slot : Slot) (before after : List Slot)

@@ -7,7 +7,7 @@ use Rattle.evidence.proofs.forgery.forged.Needs.{else-is-bound·by·then-is-bo
 pub returns-then-not-is-issued : need.returns-then-not-is-issued
 returns-then-not-is-issued g c =
     sender-unknown (faulty-in (c .args .table .now)) (g .S·Check .tag (c .args .seal .now)) (c .args .f .now) (c .args .pool .now) (c .statement-statement .result)
-    (c .statement-statement .ensures) (c .if-is-bound .ensures tt) (c .if-not-is-issued .ensures tt)
+    (c .statement-statement .ensures .is) (c .if-is-bound .ensures tt) (c .if-not-is-issued .ensures tt)
 
 pub returns : need.returns
 returns g c =
@@ -18,6 +18,6 @@ returns g c =
     let s = c .statement-statement .result in
     elim (c .else-is-bound .came) [
       | else-is-bound·by·then-is-bound·else-not-is-issued w ↦
-          c .forged-pair .ensures ∙ sender-known faulty tag f pool s (c .statement-statement .ensures) (w .if-is-bound .ensures tt) (w .if-not-is-issued .ensures tt)
-      | else-is-bound·by·else-is-bound w ↦ c .forged-pair .ensures ∙ sender-unbound faulty tag f pool s (c .statement-statement .ensures) (w .if-is-bound .ensures tt)
+          c .forged-pair .ensures ∙ sender-known faulty tag f pool s (c .statement-statement .ensures .is) (w .if-is-bound .ensures tt) (w .if-not-is-issued .ensures tt)
+      | else-is-bound·by·else-is-bound w ↦ c .forged-pair .ensures ∙ sender-unbound faulty tag f pool s (c .statement-statement .ensures .is) (w .if-is-bound .ensures tt)
     ]

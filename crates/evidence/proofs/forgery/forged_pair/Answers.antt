@@ -38,10 +38,10 @@ returns-after-loop-slot g c =
     let none = slot-none pool (c .pair-statement-statement .result) (c .loop-slot .slot-index) (c .loop-slot .inv) (c .loop-slot-test .left) in
     sym (pair-here (unforged faulty tag f pool) (c .as-slice-pairs .result .now) (c .pairs .k) _ _ (c .pairs .inv) (c .pairs-test .taken)
     (pair-unknown faulty tag f pool _ (c .pair-statement-statement .result) (c .pair-statement-statement .ensures) (c .if-not-is-bound .ensures tt) none))
-    ∙ ap (λ l. first-pair (unforged faulty tag f pool) 32 (map plain l)) (c .as-slice-pairs .ensures)
+    ∙ ap (λ l. first-pair (unforged faulty tag f pool) 32 (map plain l)) (c .as-slice-pairs .ensures .is)
 
 pub returns-after-pairs : need.returns-after-pairs
 returns-after-pairs g c =
     let good = unforged (faulty-in (c .args .table .now)) (g .S·Check .tag (c .args .seal .now)) (c .args .f .now) (c .args .pool .now) in
     sym (pair-none good (c .as-slice-pairs .result .now) (c .pairs .k) _ (c .pairs .inv) (c .pairs-test .left))
-    ∙ ap (λ l. first-pair good 32 (map plain l)) (c .as-slice-pairs .ensures)
+    ∙ ap (λ l. first-pair good 32 (map plain l)) (c .as-slice-pairs .ensures .is)
