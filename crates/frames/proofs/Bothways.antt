@@ -29,7 +29,7 @@ use Rattle.frames.proofs.Formed.{Formed, formed-none, none-formed, first-pair-
 use Rattle.frames.proofs.Frames.{frame, frame-is, take-frame, tag-frame, batch-frame, number-frame, pairs-of-frame, entry-frame, body-entry, length-pairs-from, propose-formed, decision-formed, reselect-formed}
 use Rattle.frames.proofs.Packed.{take-nil}
 use Rattle.frames.proofs.Decoding.{named, held, decoded-holds}
-use Rattle.frames.proofs.Certificates.{certificate}
+use Rattle.frames.proofs.Certificates.{certifies, certificate}
 
 -- pairs as they are held
 
@@ -269,6 +269,8 @@ module _ (n t batches : ℕ) (tag : ℕ → List ℕ → ℕ) (bs : List ℕ) (h
 pub both-ways : (n t batches : ℕ) (bs : List ℕ) → Bytes bs → Both-ways n t batches bs
 both-ways n t batches bs h = record {
   says = λ f e. let p = decoded-some n t batches bs f e in subst (λ (g : Frame). Says g bs) (sym (p .1)) (says n t batches bs h (p .0));
-  accepts = λ tag small a. certificate n t batches tag bs h (small _ _) .0 (accepted-passes n t batches tag bs h a);
+  accepts = λ tag a.
+      let p = accepted-passes n t batches tag bs h a in
+      certifies n t batches tag bs h (p .formed) (p .decision) (p .sender) (first-pair-all (pair-sealed tag bs) 32 (pairs-of bs) (p .pairs));
   certifies = λ tag small x. passes-accepted n t batches tag bs h (certificate n t batches tag bs h (small _ _) .1 x);
 }

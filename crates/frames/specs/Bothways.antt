@@ -52,8 +52,9 @@ pub record Accepted (n t batches : ℕ) (tag : ℕ → List ℕ → ℕ) (bs : L
 pub record Both-ways (n t batches : ℕ) (bs : List ℕ) : Type 0 where
   -- a frame that they decode as is what they say
   pub says : (f : Frame) → decoded n t batches bs ≡ Ok f → Says f bs
-  -- for every seal with tags of 64 bits, an accepted decision is a certificate by its own fields, and back
-  pub accepts : (tag : ℕ → List ℕ → ℕ) → ((i : ℕ) (s : List ℕ) → tag i s < 2 ^ 64) → Accepted n t batches tag bs → Certificate n t batches tag bs
+  -- for every seal, an accepted decision is a certificate by its own fields
+  pub accepts : (tag : ℕ → List ℕ → ℕ) → Accepted n t batches tag bs → Certificate n t batches tag bs
+  -- and back, since tags are numbers of 64 bits
   pub certifies : (tag : ℕ → List ℕ → ℕ) → ((i : ℕ) (s : List ℕ) → tag i s < 2 ^ 64) → Certificate n t batches tag bs → Accepted n t batches tag bs
 
 -- what holds of a frame, whatever it is: it decodes from its bytes wherever it is well formed
