@@ -2,33 +2,34 @@
 use Prim.Native.Nat.{ℕ, zero, suc, _+_, _-_, _<_, _≤_, min}
 use mathlib.Core.Path.{_≡_, refl, sym, ap, ap₂, _∙_}
 use mathlib.Core.List.{List, [], _∷_, _++_, map}
+use mathlib.Core.Logic.{_⊎_, inl, inr}
 use mathlib.Core.Bool.{Bool, true, false, cond}
 use native.Mathlib.Nat.{add-zero, zero-add}
 use native.Mathlib.Omega.{arith}
 use lib.ListN.{length, getD, take, drop, set, replicate}
-use lib.Dec.{leb}
 use Rattle.std.specs.declared.option.Option.{Option}
 use Rattle.std.specs.declared.option.Option.the-variants.{Some, None}
-use Rattle.std.specs.shelf.Lists.{countBy}
-use Rattle.std.proofs.shelf.Tests.{leb-true}
 use Rattle.std.proofs.shelf.Lists.{append-assoc, append-nil, length-append, length-map, length-take, length-take-le, set-at, take-all, take-append-drop, take-append-le, take-at, take-more, take-take, map-append}
 use Rattle.std.proofs.shelf.Sums.{countBy-le-length, sumBy-cons}
 use Rattle.base.specs.declared.book.Entry.{Entry}
 use Rattle.frames.specs.declared.frame.Pair.{Pair}
-use Rattle.frames.specs.declared.frame.Pairs.{Pairs}
-use Rattle.frames.specs.Typed.{no-pair, pair-at, plain, listed, holding}
+use Rattle.frames.specs.Typed.{no-pair, pair-at, plain, listed}
 use Rattle.frames.proofs.Packed.{take-least}
 use Rattle.protocol.specs.declared.station.Vote.{Vote}
-use Rattle.protocol.specs.Steps.{backers}
-use Rattle.evidence.specs.Votes.{is-for, support-of, backs-entry, lowest-of, quorum-of}
+use Rattle.protocol.specs.Steps.{same-entry, backers}
+use Rattle.evidence.specs.Votes.{is-for, weight-of, support-of, backs-entry, lowest-of}
+
+take-nil : {X : Type 0} (n : ℕ) → take {A = X} n [] ≡ []
+take-nil zero = refl
+take-nil (suc n) = refl
 
 -- one station
 backers-yes : (e : Entry) (q : ℕ) (v : Vote) (vs : List (Option Vote)) → backs-entry v e ≡ true → backers e q (Some v ∷ vs) ≡ (q, v .tag) ∷ backers e (q + 1) vs
-unfolding backers
+unfolding backers same-entry
 backers-yes e q v vs h = rw (h, backers) refl
 
 backers-no : (e : Entry) (q : ℕ) (v : Vote) (vs : List (Option Vote)) → backs-entry v e ≡ false → backers e q (Some v ∷ vs) ≡ backers e (q + 1) vs
-unfolding backers
+unfolding backers same-entry
 backers-no e q v vs h = rw (h, backers) refl
 
 backers-nil : (e : Entry) (q : ℕ) → backers e q [] ≡ []
@@ -39,8 +40,16 @@ backers-none : (e : Entry) (q : ℕ) (vs : List (Option Vote)) → backers e q (
 unfolding backers
 backers-none e q vs = refl
 
+-- no station counts twice
+pub light : {V S : Type 0} (backs : V → S → Bool) (what : S) (o : Option V) (w : ℕ) → w ≡ weight-of backs what o → w ≤ 1
+light backs what o w h = go (is-for backs what o) h
+  where
+    go : (b : Bool) → w ≡ cond b 1 0 → w ≤ 1
+    go true e = omega arith
+    go false e = omega arith
+
 support-cons : (e : Entry) (o : Option Vote) (vs : List (Option Vote)) → support-of backs-entry e (o ∷ vs) ≡ cond (is-for backs-entry e o) 1 0 + support-of backs-entry e vs
-support-cons e o vs = sumBy-cons (λ (x : Option Vote). cond (is-for backs-entry e x) 1 0) o vs
+support-cons e o vs = sumBy-cons (weight-of backs-entry e) o vs
 
 -- support is the number of those stations
 pub support-backers : (e : Entry) (q : ℕ) (vs : List (Option Vote)) → support-of backs-entry e vs ≡ length (backers e q vs)
@@ -77,14 +86,15 @@ backers-append e q (Some v ∷ xs) ys = go (backs-entry v e) refl (backers-appen
 backers-front : (e : Entry) (q : ℕ) (vs : List (Option Vote)) → backers e 0 vs ≡ backers e 0 (take q vs) ++ backers e (0 + length (take q vs)) (drop q vs)
 backers-front e q vs = ap (backers e 0) (sym (take-append-drop q vs)) ∙ backers-append e 0 (take q vs) (drop q vs)
 
--- as many of them as there are below n
-pub take-backers : (e : Entry) (n m : ℕ) (vs : List (Option Vote)) → m ≤ length (backers e 0 (take n vs)) → take m (backers e 0 vs) ≡ take m (backers e 0 (take n vs))
-take-backers e n m vs h = ap (take m) (backers-front e n vs) ∙ take-append-le m (backers e 0 (take n vs)) (backers e (0 + length (take n vs)) (drop n vs)) h
-
-pub fewer-backers : (e : Entry) (n : ℕ) (vs : List (Option Vote)) → length (backers e 0 (take n vs)) ≤ length (backers e 0 vs)
-fewer-backers e n vs = omega (arith, ap length (backers-front e n vs) ∙ length-append (backers e 0 (take n vs)) (backers e (0 + length (take n vs)) (drop n vs)))
-
 -- The loop that gathers pairs
+
+take-both : {X : Type 0} (m n : ℕ) (xs : List X) → take m (take n xs) ≡ take (min n m) xs
+take-both m zero xs = let k : 0 ≡ min 0 m = omega arith in take-nil m ∙ ap (λ j. take j xs) k
+take-both zero (suc n) xs = let k : 0 ≡ min (suc n) 0 = omega arith in ap (λ j. take j xs) k
+take-both (suc m) (suc n) [] = sym (take-nil (min (suc n) (suc m)))
+take-both (suc m) (suc n) (x ∷ xs) =
+    let k : min (suc n) (suc m) ≡ suc (min n m) = omega arith in
+    ap (λ r. x ∷ r) (take-both m n xs) ∙ sym (ap (λ j. take j (x ∷ xs)) k)
 
 -- the stations below q, in front of empty places
 pub record Gathered (e : Entry) (vs : List (Option Vote)) (q filled : ℕ) (each : List Pair) : Type 0 where
@@ -144,24 +154,30 @@ gathered-more e vs q filled each d v h is b room g =
           ∙ ap (λ r. r ++ replicate (8 - (filled + 1)) no-pair) (sym (map-append pair-at old ((q, v .tag) ∷ [])) ∙ ap (map pair-at) (sym new));
     }
 
--- after the last station all are gathered
-pub gathered-full : (e : Entry) (vs : List (Option Vote)) (q filled : ℕ) (each : List Pair) → length vs ≤ q → Gathered e vs q filled each → filled ≡ length (backers e 0 vs)
-gathered-full e vs q filled each h g = g .count ∙ ap (λ l. length (backers e 0 l)) (take-all q vs h)
-
--- at the end there are as many as asked for
-pub gathered-all : (e : Entry) (vs : List (Option Vote)) (q filled size : ℕ) (each : List Pair) → filled ≡ min size 8 → size ≤ length (backers e 0 vs)
-    → Gathered e vs q filled each → record { count = size; each = each } ≡ lowest-of size (backers e 0 vs)
-gathered-all e vs q filled size each full enough g =
-    let bs : List (ℕ × ℕ) = backers e 0 vs in
+-- at the end there are as many as there is room for, or else all
+pub gathered-all : (e : Entry) (vs : List (Option Vote)) (n q filled size : ℕ) (each : List Pair) → q ≤ n
+    → (filled ≡ min size 8) ⊎ ((length vs ≤ q) ⊎ (n ≤ q)) → filled ≤ min size 8
+    → Gathered e vs q filled each → record { count = size; each = each } ≡ lowest-of size (backers e 0 (take n vs))
+gathered-all e vs n q filled size each low end most g =
+    let bs : List (ℕ × ℕ) = backers e 0 (take n vs) in
     let old : List (ℕ × ℕ) = backers e 0 (take q vs) in
-    let kept : old ≡ take filled bs =
-    sym (ap (take filled) (backers-front e q vs) ∙ take-at old (backers e (0 + length (take q vs)) (drop q vs)) filled (sym (g .count))) in
-    let few : length (take size bs) ≡ size = length-take-le size bs enough in
+    let rest : List (ℕ × ℕ) = backers e (0 + length (take q (take n vs))) (drop q (take n vs)) in
+    let front : bs ≡ old ++ rest = backers-front e q (take n vs) ∙ ap (λ l. backers e 0 l ++ rest) (take-take q n vs low) in
+    let kept : old ≡ take filled bs = sym (ap (take filled) front ∙ take-at old rest filled (sym (g .count))) in
+    let whole : filled ≡ min (length bs) (min size 8) =
+    elim end [
+      | inl full ↦ full ∙ omega (arith, ap length front ∙ length-append old rest, g .count)
+      | inr past ↦ omega (arith, g .count, ap length (all-below past))
+    ] in
     let cut : take 8 (take size bs) ≡ old =
-    take-least 8 (take size bs) ∙ ap (λ k. take (min k 8) (take size bs)) few ∙ take-take (min size 8) size bs (omega arith) ∙ ap (λ k. take k bs) (sym full) ∙ sym kept in
+    take-both 8 size bs ∙ take-least (min size 8) bs ∙ ap (λ k. take k bs) (sym whole) ∙ sym kept in
     let all : each ≡ map pair-at (take 8 (take size bs)) ++ replicate (8 - length (map pair-at (take 8 (take size bs)))) no-pair =
     g .pairs ∙ ap₂ (λ r k. map pair-at r ++ replicate (8 - k) no-pair) (sym cut) (g .count ∙ sym (length-map _ pair-at ∙ ap length cut)) in
     λ i. record { count = size; each = all i }
+  where
+    all-below : (length vs ≤ q) ⊎ (n ≤ q) → backers e 0 (take n vs) ≡ backers e 0 (take q vs)
+    all-below (inl h) = ap (backers e 0) (take-all n vs (omega arith) ∙ sym (take-all q vs h))
+    all-below (inr h) = let k : n ≡ q = omega arith in ap (λ j. backers e 0 (take j vs)) k
 
 -- the pairs of at most eight are those stations
 pair-plain : (ps : List (ℕ × ℕ)) → map plain (map pair-at ps) ≡ ps
@@ -177,25 +193,3 @@ lowest-lists size bs few enough =
     let size-is : length (map pair-at (take 8 xs)) ≡ min size 8 = length-map (take 8 xs) pair-at ∙ ap length all ∙ long ∙ sym least in
     ap (map plain) (take-at (map pair-at (take 8 xs)) (replicate (8 - length (map pair-at (take 8 xs))) no-pair) (min size 8) size-is)
     ∙ pair-plain (take 8 xs) ∙ all
-
--- the quorum, where it is reached and where it is not
-module _ (e : Entry) (vs : List (Option Vote)) (n size : ℕ) where
-  abbrev reached : Bool
-  reached = leb size (support-of backs-entry e (take n vs))
-
-  abbrev answer : Bool → Option Pairs
-  answer b = cond b (Some (lowest-of size (backers e 0 (take n vs)))) None
-
-  quorum-is : quorum-of size (backers e 0 (take n vs)) ≡ answer reached
-  quorum-is = ap (λ k. answer (leb size k)) (sym (support-backers e 0 (take n vs)))
-
-  pub quorum-enough : true ≡ reached → size ≤ length (backers e 0 vs)
-  quorum-enough h = omega (arith, leb-true size (support-of backs-entry e (take n vs)) (sym h), support-backers e 0 (take n vs), fewer-backers e n vs)
-
-  pub quorum-yes : (r : Pairs) → true ≡ reached → r ≡ lowest-of size (backers e 0 vs) → Some r ≡ quorum-of size (backers e 0 (take n vs))
-  quorum-yes r h is =
-      let enough : size ≤ length (backers e 0 (take n vs)) = omega (arith, leb-true size (support-of backs-entry e (take n vs)) (sym h), support-backers e 0 (take n vs)) in
-      ap Some (is ∙ ap (holding size) (take-backers e n size vs enough)) ∙ ap answer h ∙ sym quorum-is
-
-  pub quorum-no : false ≡ reached → None ≡ quorum-of size (backers e 0 (take n vs))
-  quorum-no h = ap answer h ∙ sym quorum-is

@@ -1,18 +1,19 @@
 -- What is issued: the bytes of a sealed frame, none of which is cut off.
-use Prim.Native.Nat.{ℕ, _≤_}
+use Prim.Native.Nat.{ℕ, _+_, _*_, _≤_}
 use mathlib.Core.Path.{_≡_, refl, sym, ap, _∙_}
 use mathlib.Core.List.{List, _++_, map}
+use native.Mathlib.Omega.{arith}
 use lib.ListN.{length, take}
 use Rattle.std.proofs.shelf.Lists.{take-all}
 use Rattle.frames.specs.declared.bytes.FrameBytes.{FrameBytes}
 use Rattle.frames.specs.declared.frame.Frame.{Frame}
 use Rattle.frames.specs.declared.slot.Slot.{Slot}
 use Rattle.frames.specs.Packed.{packed, unpacked}
-use Rattle.frames.specs.Slots.{enter, slot-of}
-use Rattle.frames.specs.Typed.{listed, stated, encoded}
+use Rattle.frames.specs.Slots.{slot-of}
+use Rattle.frames.specs.Typed.{listed, encoded}
 use Rattle.frames.proofs.Encoding.{short-encoded}
 use Rattle.frames.proofs.Packed.{unpacked-packed}
-use Rattle.evidence.specs.Issue.{sealed-bytes}
+use Rattle.evidence.specs.Issue.{bytes-under}
 
 -- a frame with another tag
 abbrev pub with-tag : ℕ → Frame → Frame
@@ -21,13 +22,11 @@ with-tag tag f = record { kind = f .kind; sender = f .sender; batch = f .batch; 
 short : (f : Frame) → length (encoded f) ≤ 104
 short f = short-encoded f (listed (f .pairs)) refl
 
--- what `issue` enters
-pub issued-row : (tag : ℕ → List ℕ → ℕ) (f : Frame) (given : ℕ) (bytes : FrameBytes) (part : List ℕ) (slot : Slot) (before after : List Slot)
-    → given ≡ tag (f .sender) (stated f) → bytes ≡ packed (encoded (with-tag given f)) → part ≡ unpacked bytes → slot ≡ slot-of 0 (take 104 part)
-    → after ≡ enter slot before → after ≡ enter (slot-of 0 (sealed-bytes tag f)) before
-unfolding encoded
-issued-row tag f given bytes part slot before after g b p s a =
-    let whole : List ℕ = encoded (with-tag given f) in
-    let read : part ≡ whole = p ∙ ap unpacked b ∙ unpacked-packed whole (short (with-tag given f)) in
-    let kept : take 104 part ≡ whole = ap (take 104) read ∙ take-all 104 whole (short (with-tag given f)) in
-    a ∙ ap (λ x. enter x before) (s ∙ ap (slot-of 0) (kept ∙ ap (λ t. encoded (with-tag t f)) g))
+-- what a step enters
+pub slot-is : (f : Frame) (tag : ℕ) (bytes : FrameBytes) (part : List ℕ) (slot : Slot)
+    → bytes ≡ packed (encoded (with-tag tag f)) → part ≡ unpacked bytes → slot ≡ slot-of 0 (take 104 part) → slot ≡ slot-of 0 (bytes-under tag f)
+unfolding encoded bytes-under
+slot-is f tag bytes part slot b p s =
+    let whole : List ℕ = encoded (with-tag tag f) in
+    let read : part ≡ whole = p ∙ ap unpacked b ∙ unpacked-packed whole (short (with-tag tag f)) in
+    s ∙ ap (slot-of 0) (ap (take 104) read ∙ take-all 104 whole (short (with-tag tag f)))

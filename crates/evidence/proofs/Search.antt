@@ -1,5 +1,5 @@
 -- Searches, one pair and one slot at a time.
-use Prim.Native.Nat.{ℕ, _+_, _*_, _<_, _≤_}
+use Prim.Native.Nat.{ℕ, _+_, _*_, _<_, _≤_, min}
 use mathlib.Core.Path.{_≡_, refl, sym, ap, ap₂, subst, _∙_}
 use mathlib.Core.List.{List, [], _∷_, map}
 use mathlib.Core.Bool.{Bool, true, false, not}
@@ -11,16 +11,17 @@ use Rattle.std.specs.Orderings.{Decides}
 use Rattle.std.specs.declared.option.Option.{Option}
 use Rattle.std.specs.declared.option.Option.the-variants.{Some, None}
 use Rattle.std.proofs.shelf.Equals.{compares-decides}
-use Rattle.std.proofs.shelf.Lists.{at-drop-more, at-drop-all}
+use Rattle.std.proofs.shelf.Lists.{at-drop-more, at-drop-all, length-take}
 use Rattle.std.proofs.shelf.Ways.{same-from-decides, decides-like}
 use Rattle.frames.specs.declared.frame.Pair.{Pair}
+use Rattle.frames.specs.declared.frame.Pairs.{Pairs}
 use Rattle.frames.specs.declared.frame.Frame.{Frame}
 use Rattle.frames.specs.declared.slot.Slot.{Slot}
 use Rattle.frames.specs.Frames.{_and_, _or_, first-pair}
 use Rattle.frames.specs.Slots.{framed, same-bytes, issued}
-use Rattle.frames.specs.Typed.{plain, stated, pair-stated}
+use Rattle.frames.specs.Typed.{plain, listed, stated, pair-stated}
 use Rattle.frames.proofs.Basics.{never, and-true}
-use Rattle.evidence.specs.Forgery.{of-step, step-begins, bound, unissued, unforged, forged-pair-in, forged-in}
+use Rattle.evidence.specs.Forgery.{of-step, step-begins, bound, unissued, unforged, forged-sender-in}
 
 -- Pairs
 
@@ -116,18 +117,16 @@ module _ (faulty : ℕ → Bool) (tag : ℕ → List ℕ → ℕ) (f : Frame) (p
   pair-unknown e i = ap test (sym is) ∙ ap not (bound-by faulty tag (p .0) s (p .1) pool e ∙ ap not i)
 
 module _ (faulty : ℕ → Bool) (tag : ℕ → List ℕ → ℕ) (f : Frame) (pool : List Slot) (s : List ℕ) (is : s ≡ stated f) where
-  -- the sender's statement is the first
-  abbrev first : Bool → Option ℕ
-  first b = elim b [ true ↦ Some 24 | false ↦ forged-pair-in faulty tag f pool ]
-
-  sender-is : unissued faulty tag (f .sender) (stated f) (f .tag) pool ≡ unissued faulty tag (f .sender) s (f .tag) pool
+  sender-is : forged-sender-in faulty tag f pool ≡ unissued faulty tag (f .sender) s (f .tag) pool
+  unfolding forged-sender-in
   sender-is = ap (λ l. unissued faulty tag (f .sender) l (f .tag) pool) (sym is)
 
-  pub sender-unknown : true ≡ bound faulty tag (f .sender) s (f .tag) → false ≡ issued s pool → Some 24 ≡ forged-in faulty tag f pool
-  sender-unknown e i = sym (ap first (sender-is ∙ bound-by faulty tag (f .sender) s (f .tag) pool e ∙ ap not (sym i)))
+  pub sender-bound : (r : Bool) → true ≡ bound faulty tag (f .sender) s (f .tag) → r ≡ not (issued s pool) → r ≡ forged-sender-in faulty tag f pool
+  sender-bound r e i = i ∙ sym (sender-is ∙ bound-by faulty tag (f .sender) s (f .tag) pool e)
 
-  pub sender-known : true ≡ bound faulty tag (f .sender) s (f .tag) → true ≡ issued s pool → forged-pair-in faulty tag f pool ≡ forged-in faulty tag f pool
-  sender-known e i = sym (ap first (sender-is ∙ bound-by faulty tag (f .sender) s (f .tag) pool e ∙ ap not (sym i)))
+  pub sender-unbound : false ≡ bound faulty tag (f .sender) s (f .tag) → false ≡ forged-sender-in faulty tag f pool
+  sender-unbound e = sym (sender-is ∙ unbound faulty tag (f .sender) s (f .tag) pool e)
 
-  pub sender-unbound : false ≡ bound faulty tag (f .sender) s (f .tag) → forged-pair-in faulty tag f pool ≡ forged-in faulty tag f pool
-  sender-unbound e = sym (ap first (sender-is ∙ unbound faulty tag (f .sender) s (f .tag) pool e))
+-- at most eight pairs are there
+pub few-pairs : (ps : Pairs) (l : List Pair) → l ≡ listed ps → length l ≤ 8
+few-pairs ps l e = omega (arith, ap length e, length-take (min (ps .count) 8) (ps .each))

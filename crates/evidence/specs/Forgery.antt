@@ -45,6 +45,10 @@ module _ (faulty : ℕ → Bool) (tag : ℕ → List ℕ → ℕ) where
   abbrev pub forged-pair-in : Frame → List Slot → Option ℕ
   forged-pair-in f pool = first-pair (unforged f pool) 32 (pairs-in f)
 
+  -- the sender's statement is so
+  unfoldable pub forged-sender-in : Frame → List Slot → Bool
+  forged-sender-in f pool = unissued (f .sender) (stated f) (f .tag) pool
+
   -- the place of the first statement that is so, the sender's before those of the pairs
   abbrev pub forged-in : Frame → List Slot → Option ℕ
-  forged-in f pool = elim (unissued (f .sender) (stated f) (f .tag) pool) [ true ↦ Some 24 | false ↦ forged-pair-in f pool ]
+  forged-in f pool = elim (forged-sender-in f pool) [ true ↦ Some 24 | false ↦ forged-pair-in f pool ]

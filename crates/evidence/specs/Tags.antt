@@ -6,11 +6,12 @@ use lib.Dec.{eqb}
 use Rattle.frames.specs.declared.frame.Pairs.{Pairs}
 use Rattle.frames.specs.declared.frame.Frame.{Frame}
 use Rattle.frames.specs.Frames.{_and_}
-use Rattle.frames.specs.Typed.{stated, pair-stated, holding}
+use Rattle.frames.specs.Typed.{pair-stated, holding}
+use Rattle.evidence.specs.Issue.{right-tag}
 
 -- the sender's tag is right
 abbrev pub sender-tagged : (ℕ → List ℕ → ℕ) → Frame → Bool
-sender-tagged tag f = eqb (f .tag) (tag (f .sender) (stated f))
+sender-tagged tag f = eqb (f .tag) (right-tag tag f)
 
 -- a pair's tag is right
 abbrev pub pair-tagged : (ℕ → List ℕ → ℕ) → Frame → ℕ × ℕ → Bool

@@ -2,12 +2,13 @@
 ghost use mathlib.Core.Path.{_≡_};
 ghost use mathlib.Core.Bool.{Bool};
 ghost use mathlib.Core.List.{map};
-ghost use Prim.Native.Nat.{ℕ, _-_, _≤_};
-ghost use lib.ListN.{length};
+ghost use Prim.Native.Nat.{ℕ, _+_, _-_, _*_};
+ghost use lib.Dec.{eqb};
 ghost use denote.Ref.{now};
 ghost use Rattle.frames.specs.Frames.{first-pair};
 ghost use Rattle.frames.specs.Typed.{plain, listed};
 ghost use Rattle.protocol.specs.Ready.{pairs-in, shown-by};
+ghost use Rattle.evidence.specs.Issue.{right-tag};
 ghost use Rattle.evidence.specs.Tags.{sender-tagged, pair-tagged, pair-left, rightly-by, pairs-shown};
 use frames::frame::Frame;
 use frames::frame::Pair;
@@ -15,11 +16,25 @@ use frames::frame::Pairs;
 use policies::policy::Policy;
 use seals::seal::Check;
 
-// Whether the sender's tag is right.
+// The place in a frame of its k-th pair.
+pub(super) fn place_of(k: u8) -> usize
+    ensures { λ r. ⌜ r ≡ 32 + 9 * k ⌝ }
+{
+    32 + 9 * k as usize
+}
+
+// Whether a tag is the sender's on the frame's statement.
+fn is_senders<S: Check>(seal: &S, f: &Frame, shown: u64) -> bool
+    ensures { λ r. ⌜ r ≡ eqb shown (right-tag (S·Check .tag (now (seal .entry))) (now (f .entry))) ⌝ }
+{
+    seal.check(f.sender, &f.statement(), shown)
+}
+
+// Whether the frame's tag is right.
 pub fn sender_right<S: Check>(seal: &S, f: &Frame) -> bool
     ensures { λ r. ⌜ r ≡ sender-tagged (S·Check .tag (now (seal .entry))) (now (f .entry)) ⌝ }
 {
-    seal.check(f.sender, &f.statement(), f.tag)
+    is_senders(seal, f, f.tag)
 }
 
 // What each pair of a frame is held to.
@@ -31,13 +46,13 @@ trait PairTest {
 }
 
 // The place in a frame of the first of its pairs that fails a test.
-fn first_failing<T: PairTest>(test: &T, pairs: &[Pair]) -> Option<usize>
-    requires { ⌜ length (now pairs) ≤ 8 ⌝ }
-    ensures { λ r. ⌜ r ≡ first-pair (T·PairTest .holds (now (test .entry))) 32 (map plain (now (pairs .entry))) ⌝ }
+fn first_failing<T: PairTest>(test: &T, pairs: &Pairs) -> Option<usize>
+    ensures { λ r. ⌜ r ≡ first-pair (T·PairTest .holds (now (test .entry))) 32 (map plain (listed (now (pairs .entry)))) ⌝ }
 {
-    for (k, pair) in pairs.iter().enumerate() {
+    let some = pairs.as_slice();
+    for (k, pair) in some.iter().enumerate() {
         if !test.passes(pair) {
-            return Some(32 + 9 * k);
+            return Some(place_of(k as u8));
         }
     }
     None
@@ -63,7 +78,7 @@ impl<S: Check> PairTest for RightTag<'_, S> as RightTagTest {
 pub fn wrong_pair<'a, S: Check>(seal: &'a S, f: &'a Frame) -> Option<usize>
     ensures { λ r. ⌜ r ≡ first-pair (pair-tagged (S·Check .tag (now (seal .entry))) (now (f .entry))) 32 (pairs-in (now (f .entry))) ⌝ }
 {
-    first_failing(&RightTag { seal, frame: f }, f.pairs.as_slice())
+    first_failing(&RightTag { seal, frame: f }, &f.pairs)
 }
 
 // The number of the committee that a reselect leaves.
@@ -111,7 +126,7 @@ pub fn wrong_leaver<'a, S: Check, P: Policy>(
     ensures { λ r. ⌜ r ≡ first-pair (pair-left (S·Check .tag (now (seal .entry))) (P·Policy .seats (now (policy .entry))) (now (f .entry))) 32 (pairs-in (now (f .entry))) ⌝ }
 {
     let tag = RightTag { seal, frame: f };
-    first_failing(&Leaver { tag, policy }, f.pairs.as_slice())
+    first_failing(&Leaver { tag, policy }, &f.pairs)
 }
 
 // What a member of the new committee alone shows of the frame that it took: its sender with the tag, or its own pair.

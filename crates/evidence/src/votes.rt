@@ -1,13 +1,12 @@
 // Votes, and how many stations back one entry.
 ghost use mathlib.Core.Path.{_≡_};
-ghost use mathlib.Core.Bool.{Bool};
+ghost use mathlib.Core.Bool.{Bool, true};
 ghost use Prim.Native.Nat.{ℕ, _≤_};
 ghost use lib.Dec.{leb};
-ghost use lib.ListN.{length, take};
-ghost use Rattle.protocol.specs.Steps.{same-entry, backers};
-ghost use Rattle.evidence.specs.Votes.{is-for, support-of, backs-entry, lowest-of, quorum-of, entry-held};
+ghost use lib.ListN.{take};
+ghost use Rattle.protocol.specs.Steps.{backers};
+ghost use Rattle.evidence.specs.Votes.{equal-entries, weight-of, support-of, backs-entry, lowest-of, quorum-of, entry-held};
 use base::book::Entry;
-use base::book::EntryPartialEq;
 use frames::frame::Pair;
 use frames::frame::Pairs;
 use protocol::station::Vote;
@@ -21,9 +20,9 @@ const NO_ENTRY: Entry = Entry {
 };
 
 pub fn same_entry(a: Entry, b: Entry) -> bool
-    ensures { λ r. ⌜ r ≡ same-entry a b ⌝ }
+    ensures { λ r. ⌜ r ≡ equal-entries a b ⌝ }
 {
-    a == b
+    a.grower == b.grower && a.amount == b.amount && a.carry == b.carry && a.figure == b.figure
 }
 
 // A vote that some station gave, whatever it votes on.
@@ -47,48 +46,47 @@ pub impl Ballot for Vote as VoteBallot {
     }
 }
 
-// Whether there is a vote and it is for a subject.
-fn votes_for<V: Ballot>(held: &Option<V>, what: &V::Subject) -> bool
-    ensures { λ r. ⌜ r ≡ is-for (V·Ballot .backs) (now (what .entry)) (now (held .entry)) ⌝ }
+// What a station adds to the support of a subject: one if it votes for it.
+fn weight<V: Ballot>(held: &Option<V>, what: &V::Subject) -> u32
+    ensures { λ r. ⌜ r ≡ weight-of (V·Ballot .backs) (now (what .entry)) (now (held .entry)) ⌝ }
 {
-    match held {
-        Some(vote) => vote.is_for(what),
-        None => false,
-    }
+    let Some(vote) = held else {
+        return 0;
+    };
+    if vote.is_for(what) { 1 } else { 0 }
 }
 
 // How many of the first n stations vote for a subject; votes stand at their stations' numbers.
 pub fn support<V: Ballot>(votes: &[Option<V>; 16], n: u32, what: &V::Subject) -> u32
-    ensures { λ r. ⌜ r ≡ support-of (V·Ballot .backs) (now (what .entry)) (take n (now (votes .entry))) ⌝ }
+    ensures is { λ r. ⌜ r ≡ support-of (V·Ballot .backs) (now (what .entry)) (take n (now (votes .entry))) ⌝ }
+    ensures few { λ r. ⌜ r ≤ 16 ⌝ }
 {
     let mut stations = 0;
     for (q, held) in votes.iter().enumerate() {
         if q >= n as usize {
             break;
         }
-        if votes_for(held, what) {
-            stations += 1;
-        }
+        stations += weight(held, what);
     }
     stations
 }
 
 // Whether at least `size` of the first n stations vote for an entry.
 fn is_reached(votes: &[Option<Vote>; 16], n: u32, size: u32, entry: Entry) -> bool
-    ensures { λ r. ⌜ r ≡ leb size (support-of backs-entry entry (take n (now (votes .entry)))) ⌝ }
+    ensures is { λ r. ⌜ r ≡ leb size (support-of backs-entry entry (take n (now (votes .entry)))) ⌝ }
+    ensures few { λ r. ⌜ (r ≡ true → size ≤ 16) ⌝ }
 {
     size <= support(votes, n, &entry)
 }
 
-// The lowest stations that vote for an entry, with their tags, where there are as many as asked for.
-fn lowest(votes: &[Option<Vote>; 16], size: u32, what: Entry) -> Pairs
-    requires { ⌜ size ≤ length (backers what 0 (now votes)) ⌝ }
-    ensures { λ r. ⌜ r ≡ lowest-of size (backers what 0 (now (votes .entry))) ⌝ }
+// The lowest `size` of the first n stations that vote for an entry, with their tags.
+fn lowest(votes: &[Option<Vote>; 16], n: u32, size: u8, what: Entry) -> Pairs
+    ensures { λ r. ⌜ r ≡ lowest-of size (backers what 0 (take n (now (votes .entry)))) ⌝ }
 {
     let mut each = [Pair { station: 0, tag: 0 }; 8];
     let mut filled = 0;
     for (q, held) in votes.iter().enumerate() {
-        if filled == size.min(8) as usize {
+        if q >= n as usize || filled == size.min(8) as usize {
             break;
         }
         let Some(vote) = held else {
@@ -102,21 +100,18 @@ fn lowest(votes: &[Option<Vote>; 16], size: u32, what: Entry) -> Pairs
             filled += 1;
         }
     }
-    Pairs {
-        count: size as u8,
-        each,
-    }
+    Pairs { count: size, each }
 }
 
 // Where at least `size` of the first n stations vote for an entry, the lowest `size` of them with their
 // tags; of more than eight the first eight are kept.
 pub fn quorum(votes: &[Option<Vote>; 16], n: u32, size: u32, entry: Entry) -> Option<Pairs>
-    ensures { λ r. ⌜ r ≡ quorum-of size (backers entry 0 (take n (now (votes .entry)))) ⌝ }
+    ensures { λ r. ⌜ r ≡ quorum-of size entry (take n (now (votes .entry))) ⌝ }
 {
     if !is_reached(votes, n, size, entry) {
         return None;
     }
-    Some(lowest(votes, size, entry))
+    Some(lowest(votes, n, size as u8, entry))
 }
 
 // The entry of station i's vote; zeros where there is no vote.

@@ -180,10 +180,11 @@ module _ (d : Terms) (w : World) (places : d .n ≤ length (w .stations)) (i : �
         (λ _. by-test (λ v. Is (cond v Decision Reselect) (elim v [ true ↦ meet-decision d i f bs w | false ↦ meet-reselect d i f bs w ]))
         (eqb (kind-of bs) 2) decision reselection)
 
-  pub deliver-is : (f : ℕ) → d .t ≤ 7 → Bytes (frame-at (w .pool) f)
+  pub deliver-is : (f : ℕ) → d .t ≤ 7
+      → ((fr : Frame) → decoded (d .n) (d .t) (d .batches) (frame-at (w .pool) f) ≡ Ok fr → stated fr ≡ take 24 (frame-at (w .pool) f))
       → deliver-call d i f w ≡ through (deliver-ready d i f (station-at w i) (w .pool)) w (λ fr. answered i w (deliver-on d i f fr (desk-at w i)))
   unfolding deliver-call deliver-ready decoded frame-of
-  deliver-is f few bytes =
+  deliver-is f few says =
       let s : Station = station-at w i in
       let bs : List ℕ = frame-at (w .pool) f in
       let go : Frame → Acted = λ fr. answered i w (deliver-on d i f fr (desk-at w i)) in
@@ -195,7 +196,7 @@ module _ (d : Terms) (w : World) (places : d .n ≤ length (w .stations)) (i : �
       past-form w go (malformed d bs) (frame-of bs) _ _ λ well.
       past w go (leb (s .booked + 1) (batch-of bs)) EarlierBatch _ _ λ _.
       past w go (leb (batch-of bs) (s .booked + 1)) LaterBatch _ _ λ _.
-      ap (λ (x : List ℕ). test (eqb (tag-of bs) (d .tag (sender-of bs) x)) (refused w SenderTag 24) (meet d i f bs w)) (sym (stated-is (d .n) (d .t) (d .batches) bs well bytes))
+      ap (λ (x : List ℕ). test (eqb (tag-of bs) (d .tag (sender-of bs) x)) (refused w SenderTag 24) (meet d i f bs w)) (sym (says (frame-of bs) (ap (λ (o : Option ℕ). held-to o (frame-of bs)) well)))
       ∙ past-at w go (eqb (tag-of bs) (d .tag (sender-of bs) (stated (frame-of bs)))) SenderTag 24 _ _
       (met (inside low) f bs (few-pairs (d .n) (d .t) (d .batches) bs well few)
       ∙ past-then w go (kind-ready d s (frame-of bs)) (λ _. Ok (frame-of bs)))

@@ -1,9 +1,11 @@
 use mathlib.Core.Path.{sym, ap, _∙_}
 use mathlib.Core.List.{map}
+use native.Mathlib.Omega.{arith}
+use Rattle.std.specs.declared.option.Option.the-variants.{Some}
 use Rattle.frames.specs.Frames.{first-pair}
 use Rattle.frames.specs.Typed.{plain}
 use Rattle.evidence.specs.Forgery.{faulty-in, unforged}
-use Rattle.evidence.proofs.Search.{pair-next, pair-here, pair-none, slot-here, slot-next, slot-none, pair-unbound, pair-known, pair-unknown}
+use Rattle.evidence.proofs.Search.{pair-next, pair-here, pair-none, slot-here, slot-next, slot-none, few-pairs, pair-unbound, pair-known, pair-unknown}
 use Rattle.evidence.proofs.forgery.forged_pair.Needs as need
 
 pub pairs-again-then-not-is-bound : need.pairs-again-then-not-is-bound
@@ -29,6 +31,9 @@ pairs-again g c =
     pair-next (unforged faulty tag f pool) (c .as-slice-pairs .result .now) (c .pairs .k) _ _ (c .pairs .inv) (c .pairs-test .taken)
     (pair-known faulty tag f pool _ (c .pair-statement-statement .result) (c .pair-statement-statement .ensures) (c .if-not-is-bound .ensures tt) here)
 
+pub cast-k : need.cast-k
+cast-k g c = omega (arith, few-pairs (c .args .f .now .pairs) (c .as-slice-pairs .result .now) (c .as-slice-pairs .ensures .is))
+
 pub returns-after-loop-slot : need.returns-after-loop-slot
 returns-after-loop-slot g c =
     let faulty = faulty-in (c .args .table .now) in
@@ -36,7 +41,8 @@ returns-after-loop-slot g c =
     let f = c .args .f .now in
     let pool = c .args .pool .now in
     let none = slot-none pool (c .pair-statement-statement .result) (c .loop-slot .slot-index) (c .loop-slot .inv) (c .loop-slot-test .left) in
-    sym (pair-here (unforged faulty tag f pool) (c .as-slice-pairs .result .now) (c .pairs .k) _ _ (c .pairs .inv) (c .pairs-test .taken)
+    ap Some (c .place-of .ensures)
+    ∙ sym (pair-here (unforged faulty tag f pool) (c .as-slice-pairs .result .now) (c .pairs .k) _ _ (c .pairs .inv) (c .pairs-test .taken)
     (pair-unknown faulty tag f pool _ (c .pair-statement-statement .result) (c .pair-statement-statement .ensures) (c .if-not-is-bound .ensures tt) none))
     ∙ ap (λ l. first-pair (unforged faulty tag f pool) 32 (map plain l)) (c .as-slice-pairs .ensures .is)
 

@@ -1,0 +1,33 @@
+// Ring: a timeout, on which a station reselects.
+ghost use mathlib.Core.Path.{_≡_};
+ghost use Rattle.protocol.specs.Law.{ringing};
+ghost use Rattle.protocol.specs.Steps.{whole-call};
+ghost use Rattle.hall.specs.Join.{terms};
+ghost use Rattle.hall.specs.Called.{world};
+use super::Hall;
+use crate::step::NO_PAIRS;
+use base::book::Batch;
+use base::book::Entry;
+use base::fault::Fault;
+use frames::slot::Slot;
+use policies::policy::Policy;
+use rules::rule::Rule;
+use seals::seal::Sealing;
+
+impl<R: Rule, P: Policy, S: Sealing> Hall<R, P, S> {
+    pub fn ring(
+        &mut self,
+        i: u32,
+        intake: &[Batch],
+        pool: &mut [Slot],
+        books: &mut [Entry],
+    ) -> Result<(bool, bool, bool), Fault>
+        ensures setup { λ _. ⌜ now (self .exit) .setup ≡ now (self .entry) .setup ⌝ }
+        ensures call { λ r. ⌜ (world (now (self .exit) .stations) (now (pool .exit)) (now (books .exit)), r) ≡ whole-call (terms R·Rule P·Policy S·Check (now (self .entry) .setup)) (now (intake .entry)) (ringing i) (world (now (self .entry) .stations) (now (pool .entry)) (now (books .entry))) ⌝ }
+    {
+        self.setup.admit(intake, pool, books)?;
+        self.setup.ring_ready(i, &self.stations, pool)?;
+        let st = &mut self.stations[i as usize];
+        Ok(self.setup.reselect_on(i, NO_PAIRS, st, pool, books))
+    }
+}
