@@ -1,5 +1,8 @@
 -- What the tests of every call answer.
+use mathlib.Core.Bool.{Bool}
 use mathlib.Core.List.{List}
+use Prim.Native.Nat.{ℕ}
+use lib.Dec.{leb}
 use Rattle.std.specs.declared.result.Result.{Result}
 use Rattle.std.specs.declared.result.Result.the-variants.{Ok, Err}
 use Rattle.base.specs.declared.book.Batch.{Batch}
@@ -7,6 +10,7 @@ use Rattle.base.specs.declared.book.Entry.{Entry}
 use Rattle.base.specs.declared.fault.Fault.{Fault}
 use Rattle.base.specs.declared.refusal.Refusal.the-variants.{OutOfRange, WrongLength}
 use Rattle.frames.specs.declared.slot.Slot.{Slot}
+use Rattle.frames.specs.Frames.{_and_}
 use Rattle.protocol.specs.declared.station.Station.{Station}
 use Rattle.protocol.specs.Law.{Terms}
 use Rattle.protocol.specs.Steps.{World, in-range, fitting, passing}
@@ -25,3 +29,7 @@ map-ok f (Err e) = Err e
 -- the numbers lie in range and agree, and then every buffer has its length
 abbrev pub admitted : Terms → List Batch → World → Result (Unit {0}) Fault
 admitted d intake w = passing (in-range d) OutOfRange (passing (fitting d intake w) WrongLength (Ok tt))
+
+-- entry k, counted from 1, is among those booked
+abbrev pub among : ℕ → ℕ → Bool
+among k booked = leb 1 k and leb k booked

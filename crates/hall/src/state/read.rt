@@ -1,10 +1,8 @@
 // Read: an entry of a station's book.
 ghost use mathlib.Core.Path.{_≡_};
-ghost use lib.Dec.{leb};
-ghost use Rattle.frames.specs.Frames.{_and_};
 ghost use Rattle.protocol.specs.Steps.{read-call};
 ghost use Rattle.hall.specs.Join.{terms};
-ghost use Rattle.hall.specs.Called.{world};
+ghost use Rattle.hall.specs.Called.{world, among};
 use super::Hall;
 use crate::ready::record_at;
 use base::book::Batch;
@@ -18,7 +16,7 @@ use seals::seal::Sealing;
 
 // Whether entry k is one of those booked, the first being 1.
 fn is_booked(k: u32, booked: u32) -> bool
-    ensures { λ r. ⌜ r ≡ (leb 1 k and leb k booked) ⌝ }
+    ensures { λ r. ⌜ r ≡ among k booked ⌝ }
 {
     1 <= k && k <= booked
 }
