@@ -2,7 +2,6 @@
 use Prim.Native.Nat.{ℕ, _+_, _*_, _<_, _≤_}
 use mathlib.Core.Path.{_≡_, refl, sym, ap, subst, _∙_}
 use mathlib.Core.List.{List, [], map}
-use mathlib.Core.Logic.{_⊎_, inl, inr}
 use mathlib.Core.Bool.{Bool, true, false, cond, not}
 use native.Mathlib.Omega.{arith}
 use lib.ListN.{length, getD, take, set, replicate}
@@ -19,7 +18,7 @@ use Rattle.frames.specs.declared.frame.Kind.the-variants.{Propose, Decision, Re
 use Rattle.frames.specs.declared.frame.Pairs.{Pairs}
 use Rattle.frames.specs.declared.slot.Slot.{Slot}
 use Rattle.frames.specs.Bytes.{statement, entry-bytes, proposes, reselects}
-use Rattle.frames.specs.Frames.{_and_}
+use Rattle.frames.specs.Slots.{no-slot}
 use Rattle.frames.specs.Typed.{plain, listed, holding}
 use Rattle.frames.proofs.Basics.{and-true}
 use Rattle.rules.specs.Clerk.{worked}
@@ -37,7 +36,7 @@ use Rattle.protocol.proofs.Fields.{held-pairs}
 use Rattle.protocol.proofs.Steady.{Steady, stored-steady}
 use Rattle.protocol.specs.Ready.{vote-in, pairs-in, shown-by, marked-taken, taken-on, open-on, deliver-on}
 use Rattle.hall.specs.Working.{Placed, Working, Moving}
-use Rattle.hall.specs.Called.{desk}
+use Rattle.hall.specs.Called.{desk, called-upon, taken-slot}
 
 -- a vote that was just stored is read back
 pub own-stored : (i : ℕ) (v : Vote) (s : Station) → i < length (s .votes) → own-vote i (has-proposed-in i v s) ≡ v .entry
@@ -102,12 +101,13 @@ module _ (d : Terms) (i : ℕ) where
       let same : b ≡ st .work = passes b (st .work) batch .0 in
       rw (p, s, w, c, same) refl
 
-  pub decided : (e : Entry) (pairs : Pairs) (st : Station) (pool pool′ : List Slot) (books : List Entry)
+  pub decided : (e : Entry) (pairs : Pairs) (st : Station) (pool pool′ : List Slot) (books : List Entry) (place : ℕ)
+      → place ≡ i * d .batches + st .booked
       → pairs .count ≡ d .t + 1
       → pool′ ≡ sent d i (statement 2 i (st .booked + 1) 0 (pairs .count) (entry-bytes e)) (map plain (listed pairs)) pool
-      → desk (finished st) pool′ (set books (i * d .batches + st .booked) e) ≡ decide-on d i e (map plain (listed pairs)) (desk st pool books)
+      → desk (finished st) pool′ (set books place e) ≡ decide-on d i e (map plain (listed pairs)) (desk st pool books)
   unfolding decide-on
-  decided e pairs st pool pool′ books size p = rw (p, size) refl
+  decided e pairs st pool pool′ books place at size p = rw (p, size, at) refl
 
   -- t + 1 stations back the entry
   pub settled : (e : Entry) (pairs : Pairs) (k k′ : Desk) → d .t ≤ 7
@@ -183,24 +183,18 @@ module _ (d : Terms) (i : ℕ) where
           | false ↦ (moved-on d i proof k, (true, false, false))
         ]
 
-    off : (s p : Bool) → (s ≡ false) ⊎ (p ≡ true) → (s and not p) ≡ false
-    off s p (inl e) = ap (λ x. x and not p) e
-    off true p (inr e) = ap not e
-    off false p (inr e) = refl
-
-    pub stays-out : (k₁ : Desk) → k₁ ≡ moved-on d i proof k → (d .seats (k .station .number + 1) i ≡ false) ⊎ (k .station .proposed ≡ true)
+    pub stays-out : (k₁ : Desk) → k₁ ≡ moved-on d i proof k → false ≡ called-upon (d .seats) i (k .station .number) (k .station .proposed)
         → _≡_ {A = Desk × Marks} (k₁, (true, false, false)) (reselect-on d i proof k)
     unfolding reselect-on
-    stays-out k₁ m e = ap (λ (x : Desk). (x, (true, false, false))) m ∙ ap onward (sym (off (d .seats (k .station .number + 1) i) (k .station .proposed) e))
+    stays-out k₁ m e = ap (λ (x : Desk). (x, (true, false, false))) m ∙ ap onward e
 
-    pub joins-in : (k₁ k₂ : Desk) (f : Bool) → k₁ ≡ moved-on d i proof k → d .seats (k .station .number + 1) i ≡ true → k .station .proposed ≡ false
+    pub joins-in : (k₁ k₂ : Desk) (f : Bool) → k₁ ≡ moved-on d i proof k → true ≡ called-upon (d .seats) i (k .station .number) (k .station .proposed)
         → _≡_ {A = Desk × Bool} (k₂, f) (join-on d i k₁)
         → _≡_ {A = Desk × Marks} (k₂, (true, true, f)) (reselect-on d i proof k)
     unfolding reselect-on
-    joins-in k₁ k₂ f m s p j =
+    joins-in k₁ k₂ f m e j =
         let marked : Desk × Bool → Desk × Marks = λ r. (r .0, (true, true, r .1)) in
-        ap marked (j ∙ ap (join-on d i) m)
-        ∙ ap onward (sym (ap (λ x. x and not (k .station .proposed)) s ∙ ap not p))
+        ap marked (j ∙ ap (join-on d i) m) ∙ ap onward e
 
   -- a member whose entry differs has a seat, and a number to go on to
   pub differing : (q : ℕ) (e : Entry) (s : Station) → differs-on d i q e s ≡ true → (d .seats (s .number) i ≡ true) × (s .number < 20000)
@@ -287,7 +281,11 @@ module _ (d : Terms) (i : ℕ) where
       let after : Bool → Desk × Marks = λ b. elim b [ true ↦ (propose-on d i k₁, (false, true, false)) | false ↦ (k₁, (false, false, false)) ] in
       ap (λ (x : Desk). (x, (false, true, false))) p ∙ ap after e
 
-  module _ (place : ℕ) (f : Frame) (k : Desk) (pool₁ : List Slot) (marked : pool₁ ≡ marked-taken place (k .pool)) where
+  module _ (place : ℕ) (f : Frame) (k : Desk) (pool₁ : List Slot) (changed : pool₁ ≡ set (k .pool) place (taken-slot (getD (k .pool) place no-slot))) where
+    marked : pool₁ ≡ marked-taken place (k .pool)
+    unfolding marked-taken
+    marked = changed
+
     abbrev at-desk : List Slot → Desk
     at-desk pool = desk (k .station) pool (k .books)
 

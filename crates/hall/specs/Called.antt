@@ -1,7 +1,7 @@
 -- What the tests of every call answer.
-use mathlib.Core.Bool.{Bool}
+use mathlib.Core.Bool.{Bool, true, not}
 use mathlib.Core.List.{List}
-use Prim.Native.Nat.{ℕ}
+use Prim.Native.Nat.{ℕ, _+_}
 use lib.Dec.{leb}
 use Rattle.std.specs.declared.result.Result.{Result}
 use Rattle.std.specs.declared.result.Result.the-variants.{Ok, Err}
@@ -33,3 +33,11 @@ admitted d intake w = passing (in-range d) OutOfRange (passing (fitting d intake
 -- entry k, counted from 1, is among those booked
 abbrev pub among : ℕ → ℕ → Bool
 among k booked = leb 1 k and leb k booked
+
+-- station i sits in the committee after c, and has not proposed
+abbrev pub called-upon : (ℕ → ℕ → Bool) → ℕ → ℕ → Bool → Bool
+called-upon seats i c proposed = seats (c + 1) i and not proposed
+
+-- a slot whose frame is taken
+abbrev pub taken-slot : Slot → Slot
+taken-slot s = record { len = s .len; bytes = s .bytes; by = s .by; taken = true }

@@ -1,13 +1,14 @@
 // What accepted calls go on with, at the desk of the station that they are for.
 ghost use mathlib.Core.Path.{_≡_};
 ghost use Prim.Native.Nat.{_<_};
-ghost use lib.ListN.{length};
+ghost use lib.ListN.{length, getD, set};
+ghost use Rattle.frames.specs.Slots.{no-slot};
 ghost use Rattle.rules.specs.Plain.{plain};
 ghost use Rattle.frames.specs.declared.frame.Kind.the-variants.{Reselect, Decision};
 ghost use Rattle.protocol.specs.Desk.{begun};
-ghost use Rattle.protocol.specs.Ready.{open-on, deliver-on, marked-taken};
+ghost use Rattle.protocol.specs.Ready.{open-on, deliver-on};
 ghost use Rattle.hall.specs.Join.{terms};
-ghost use Rattle.hall.specs.Called.{desk};
+ghost use Rattle.hall.specs.Called.{desk, taken-slot};
 ghost use Rattle.hall.specs.Working.{Placed, Working, Delivered};
 use crate::setup::Setup;
 use base::book::Batch;
@@ -36,7 +37,7 @@ fn begin(st: &mut Station, batch: Batch)
 // Frame f is taken.
 fn mark(pool: &mut [Slot], f: u32)
     requires { ⌜ f < length (now pool) ⌝ }
-    ensures { λ _. ⌜ now (pool .exit) ≡ marked-taken f (now (pool .entry)) ⌝ }
+    ensures { λ _. ⌜ now (pool .exit) ≡ set (now (pool .entry)) f (taken-slot (getD (now (pool .entry)) f no-slot)) ⌝ }
 {
     pool[f as usize].taken = true;
 }

@@ -18,6 +18,7 @@ ghost use Rattle.hall.specs.Called.{map-ok};
 ghost use Rattle.hall.specs.Parts.{States, decision-ready, reselect-ready, frame-ready};
 ghost use Rattle.hall.specs.Steady.{Steady};
 use crate::setup::Setup;
+use crate::step::may_move;
 use base::book::Batch;
 use base::fault::Fault;
 use base::refusal::Refusal;
@@ -139,7 +140,7 @@ impl<R: Rule, P: Policy, S: Sealing> Setup<R, P, S> {
         if !self.policy.seated(st.number, i) {
             return Err(refuse(Refusal::NotMember));
         }
-        if st.number >= 20_000 {
+        if !may_move(st.number) {
             return Err(refuse(Refusal::LastNumber));
         }
         roomy(pool)

@@ -3,12 +3,13 @@ ghost use mathlib.Core.Path.{_≡_};
 ghost use mathlib.Core.Bool.{false};
 ghost use mathlib.Core.List.{map};
 ghost use Prim.Native.Nat.{_+_, _*_, _<_, _≤_};
+ghost use lib.Dec.{ltb};
 ghost use lib.ListN.{length, replicate};
 ghost use Rattle.frames.specs.Bytes.{statement};
 ghost use Rattle.frames.specs.Typed.{listed, plain, stated};
 ghost use Rattle.protocol.specs.Desk.{own-vote, carry-of, sent, propose-on, decide-on, settle-on, join-on, announced, reselect-on, differs-on, vote-on};
 ghost use Rattle.hall.specs.Join.{terms};
-ghost use Rattle.hall.specs.Called.{desk};
+ghost use Rattle.hall.specs.Called.{desk, called-upon};
 ghost use Rattle.hall.specs.Working.{Placed, Working, Moving};
 use crate::setup::Setup;
 use base::book::Batch;
@@ -51,7 +52,37 @@ pub(crate) const NO_PAIRS: Pairs = Pairs {
     each: [Pair { station: 0, tag: 0 }; 8],
 };
 
+// Whether there is a further committee to go on to.
+pub(crate) fn may_move(number: u32) -> bool
+    ensures { λ r. ⌜ r ≡ ltb number 20000 ⌝ }
+{
+    number < LAST_NUMBER
+}
+
 impl<R: Rule, P: Policy, S: Sealing> Setup<R, P, S> {
+    // How many stations decide an entry.
+    fn quorum_size(&self) -> u32
+        ensures { λ r. ⌜ r ≡ now (self .entry) .table .t + 1 ⌝ }
+    {
+        self.table.faults() + 1
+    }
+
+    // Whether a station works the batch out under the committee after c.
+    fn is_called(&self, i: u32, c: u32, proposed: bool) -> bool
+        requires { ⌜ c < 20000 ⌝ }
+        ensures { λ r. ⌜ r ≡ called-upon (P·Policy .seats (now (self .entry) .policy)) i c proposed ⌝ }
+    {
+        self.policy.seated(c + 1, i) && !proposed
+    }
+
+    // Where the next entry of a station is booked.
+    fn book_place(&self, i: u32, booked: u32) -> usize
+        requires { ⌜ i < 16 ⌝ }
+        ensures { λ r. ⌜ r ≡ i * now (self .entry) .batches + booked ⌝ }
+    {
+        i as usize * self.batches as usize + booked as usize
+    }
+
     // The carry of the last booked entry, 0 where there is none.
     fn last_carry(&self, i: u32, booked: u32, books: &[Entry]) -> u32
         requires within { ⌜ i * now self .batches + booked ≤ length (now books) ⌝ }
@@ -61,7 +92,7 @@ impl<R: Rule, P: Policy, S: Sealing> Setup<R, P, S> {
         if booked == 0 {
             return 0;
         }
-        books[i as usize * self.batches as usize + booked as usize - 1].carry
+        books[self.book_place(i, booked) - 1].carry
     }
 
     // A frame of a station's own enters the pool; answers its tag.
@@ -127,7 +158,8 @@ impl<R: Rule, P: Policy, S: Sealing> Setup<R, P, S> {
             pairs,
         };
         self.send(&frame, pool);
-        books[i as usize * self.batches as usize + st.booked as usize] = entry;
+        let place = self.book_place(i, st.booked);
+        books[place] = entry;
         st.booked += 1;
         st.work = NO_BATCH;
     }
@@ -144,8 +176,7 @@ impl<R: Rule, P: Policy, S: Sealing> Setup<R, P, S> {
         requires { ⌜ Placed (terms R·Rule P·Policy S·Check (now self)) i (now st) (length (now books)) ⌝ }
         ensures { λ r. ⌜ (desk (now (st .exit)) (now (pool .exit)) (now (books .exit)), r) ≡ settle-on (terms R·Rule P·Policy S·Check (now (self .entry))) i entry (desk (now (st .entry)) (now (pool .entry)) (now (books .entry))) ⌝ }
     {
-        let size = self.table.faults() + 1;
-        match quorum(&st.votes, self.table.stations(), size, entry) {
+        match quorum(&st.votes, self.table.stations(), self.quorum_size(), entry) {
             Some(pairs) => {
                 self.decide_on(i, entry, pairs, st, pool, books);
                 true
@@ -214,7 +245,7 @@ impl<R: Rule, P: Policy, S: Sealing> Setup<R, P, S> {
         let c = st.number;
         self.announce(i, (st.booked + 1) as u16, c, proof, pool);
         st.number = c + 1;
-        if st.proposed || !self.policy.seated(c + 1, i) {
+        if !self.is_called(i, c, st.proposed) {
             return (true, false, false);
         }
         let decided = self.join_on(i, st, pool, books);
@@ -227,7 +258,7 @@ impl<R: Rule, P: Policy, S: Sealing> Setup<R, P, S> {
     {
         let c = st.number;
         self.policy.seated(c, i)
-            && c < LAST_NUMBER
+            && may_move(c)
             && st.proposed
             && self.policy.seated(c, q as u32)
             && !same_entry(entry, own_entry(&st.votes, i))

@@ -22,9 +22,9 @@ pub returns-then-not-seated : need.returns-then-not-seated
 unfolding ring-ready
 returns-then-not-seated g c = search needs
 
-pub returns-then-st-ge20000 : need.returns-then-st-ge20000
+pub returns-then-not-may-move : need.returns-then-not-may-move
 unfolding ring-ready
-returns-then-st-ge20000 g c = search needs
+returns-then-not-may-move g c = search needs
 
 pub returns : need.returns
 unfolding ring-ready

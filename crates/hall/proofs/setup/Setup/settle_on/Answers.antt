@@ -1,5 +1,3 @@
-use mathlib.Core.Path.{ap}
-use Prim.Native.Nat.{_+_}
 use Rattle.hall.specs.Called.{desk}
 use Rattle.hall.specs.Join.{terms}
 use Rattle.hall.proofs.Desks.{settles, waits}
@@ -9,10 +7,10 @@ pub returns-in-Some : need.returns-in-Some
 returns-in-Some g c =
     let a = c .args in
     settles (terms (g .R·Rule) (g .P·Policy) (g .S·Check) (a .self .now)) (a .i) (a .entry) (desk (a .st .now) (a .pool .now) (a .books .now))
-    _ _ (ap (λ t. t + 1) (c .faults-size .ensures)) (c .stations .ensures) (c .in-Some .pairs) _ (c .pre .quorum) (c .in-Some .ensures tt) (c .decide-on .ensures)
+    _ _ (c .quorum-size .ensures) (c .stations .ensures) (c .in-Some .pairs) _ (c .pre .quorum) (c .in-Some .ensures tt) (c .decide-on .ensures)
 
 pub returns-in-None : need.returns-in-None
 returns-in-None g c =
     let a = c .args in
     waits (terms (g .R·Rule) (g .P·Policy) (g .S·Check) (a .self .now)) (a .i) (a .entry) (desk (a .st .now) (a .pool .now) (a .books .now))
-    _ _ (ap (λ t. t + 1) (c .faults-size .ensures)) (c .stations .ensures) (c .in-None .ensures tt)
+    _ _ (c .quorum-size .ensures) (c .stations .ensures) (c .in-None .ensures tt)
