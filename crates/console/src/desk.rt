@@ -1,4 +1,6 @@
 // The state of a script, and what each command does to it.
+use super::floor::Call;
+use super::floor::Floor;
 use super::reply::Reply;
 use super::words::Words;
 use super::words::hex_word;
@@ -27,6 +29,11 @@ use std::alloc::AllocError;
 use std::alloc::Global;
 use std::mem;
 
+// The most batches or slots of a hall, and the most elements of a buffer, that a script may ask for.
+const MOST_MADE: u32 = 100_000;
+
+const MOST_LENT: u32 = 2_000_000;
+
 // The one table of a script, in whichever state it is.
 #[derive(Drop)]
 enum Table {
@@ -45,6 +52,7 @@ pub struct Desk {
     intake: Vec<Batch>,
     // how many batches a frame may name
     batches: Option<u32>,
+    floor: Option<Floor>,
 }
 
 impl Desk {
@@ -57,6 +65,7 @@ impl Desk {
             seal: None,
             intake: Vec::new(heap),
             batches: None,
+            floor: None,
         }
     }
 
@@ -77,7 +86,9 @@ impl Desk {
             Some(b"line") => measure(&mut words),
             Some(b"batches") => self.set_batches(&mut words),
             Some(b"frame") => self.frame(&mut words),
-            _ => Some(Reply::Mistake("unknown command")),
+            Some(b"hall") => return self.make_hall(&mut words),
+            Some(name) => return self.call(name, &mut words),
+            None => Some(Reply::Mistake("unknown command")),
         };
         Ok(reply.unwrap_or(Reply::Mistake("wrong words")))
     }
@@ -245,6 +256,51 @@ impl Desk {
         )
     }
 
+    fn make_hall(&mut self, words: &mut Words) -> Result<Reply, AllocError> {
+        let Some((batches, slots)) = words.last_two() else {
+            return Ok(Reply::Mistake("wrong words"));
+        };
+        if batches > MOST_MADE || slots > MOST_MADE {
+            return Ok(Reply::Mistake("number too large"));
+        }
+        let Table::Fixed(table) = &self.table else {
+            return Ok(Reply::Mistake("no locked table"));
+        };
+        let Some(rule) = self.rule else {
+            return Ok(Reply::Mistake("no rule"));
+        };
+        let Some(policy) = self.policy else {
+            return Ok(Reply::Mistake("no policy"));
+        };
+        let Some(seal) = &self.seal else {
+            return Ok(Reply::Mistake("no seal"));
+        };
+        let floor = Floor::new(
+            self.heap,
+            table,
+            rule,
+            policy,
+            seal,
+            &self.intake,
+            batches,
+            slots,
+        )?;
+        self.floor = Some(floor);
+        Ok(Reply::Done)
+    }
+
+    // A call on the hall that stands.
+    fn call(&mut self, name: &[u8], words: &mut Words) -> Result<Reply, AllocError> {
+        let call = match read_call(name, words) {
+            Ok(call) => call,
+            Err(reason) => return Ok(Reply::Mistake(reason)),
+        };
+        match &mut self.floor {
+            Some(floor) => floor.answer(call),
+            None => Ok(Reply::Mistake("no hall")),
+        }
+    }
+
     fn tag(&self, words: &mut Words) -> Option<Reply> {
         let station = words.number()?;
         let text = statement(words.last_word()?)?;
@@ -256,6 +312,42 @@ impl Desk {
             None => Some(Reply::Mistake("no seal")),
         }
     }
+}
+
+// The call of a name, if it is one and the words behind it are right.
+fn read_call<'a>(name: &[u8], words: &mut Words<'a>) -> Result<Call<'a>, &'static str> {
+    let wrong = "wrong words";
+    Ok(
+        match name {
+            b"buffers" => buffers(words).ok_or(wrong)?,
+            b"open" => Call::Open(words.last_number().ok_or(wrong)?),
+            b"deliver" => {
+                let (i, f) = words.last_two().ok_or(wrong)?;
+                Call::Deliver(i, f)
+            }
+            b"ring" => Call::Ring(words.last_number().ok_or(wrong)?),
+            b"inject" => Call::Inject(words.text().ok_or(wrong)?),
+            b"read" => {
+                let (i, k) = words.last_two().ok_or(wrong)?;
+                Call::Read(i, k)
+            }
+            b"write" => {
+                let (f, len) = words.last_two().ok_or(wrong)?;
+                Call::Write(f, len)
+            }
+            b"slot" => Call::Show(words.last_number().ok_or(wrong)?),
+            _ => return Err("unknown command"),
+        },
+    )
+}
+
+fn buffers<'a>(words: &mut Words<'a>) -> Option<Call<'a>> {
+    let batches = words.number()?;
+    let (slots, entries) = words.last_two()?;
+    if batches > MOST_LENT || slots > MOST_LENT || entries > MOST_LENT {
+        return None;
+    }
+    Some(Call::Buffers(batches, slots, entries))
 }
 
 // How many bytes a line stands for.

@@ -1,5 +1,6 @@
 // Reads a script from standard input, a command a line, and answers each line.
 mod desk;
+mod floor;
 mod reply;
 mod words;
 

@@ -4,6 +4,7 @@ use base::fault::Fault;
 use base::refusal::Refusal;
 use frames::frame::Frame;
 use frames::frame::Kind;
+use frames::slot::Slot;
 use std::fmt;
 
 #[derive(Drop)]
@@ -17,6 +18,12 @@ pub enum Reply {
     // how many bytes a line stands for
     Bytes(u32),
     Decoded(Frame),
+    // what a call did: reselected, proposed, decided
+    Marks((bool, bool, bool)),
+    Booked(Entry),
+    // a frame as a line
+    Written(Vec<u8>),
+    Shown(Slot),
     Refused(Fault),
     Mistake(&'static str),
 }
@@ -33,6 +40,13 @@ pub impl fmt::Display for Reply as ReplyDisplay {
             Reply::Tag(tag) => write!(f, "ok {tag:016x}"),
             Reply::Bytes(count) => write!(f, "ok {count}"),
             Reply::Decoded(frame) => show_frame(frame, f),
+            Reply::Marks(marks) => show_marks(*marks, f),
+            Reply::Booked(entry) => {
+                f.write_str("ok ")?;
+                show_entry(*entry, f)
+            }
+            Reply::Written(line) => show_line(line, f),
+            Reply::Shown(slot) => show_slot(slot, f),
             Reply::Refused(fault) => show_fault(*fault, f),
             Reply::Mistake(reason) => write!(f, "error ({reason})"),
         }
@@ -71,6 +85,42 @@ fn show_frame<W: fmt::Write>(frame: &Frame, f: &mut fmt::Formatter<W>) -> fmt::R
         let station = pair.station;
         let tag = pair.tag;
         write!(f, " pair {station} {tag:016x}")?;
+    }
+    Ok(())
+}
+
+fn show_marks<W: fmt::Write>(marks: (bool, bool, bool), f: &mut fmt::Formatter<W>) -> fmt::Result {
+    let (reselected, proposed, decided) = marks;
+    f.write_str("ok")?;
+    if reselected {
+        f.write_str(" reselected")?;
+    }
+    if proposed {
+        f.write_str(" proposed")?;
+    }
+    if decided {
+        f.write_str(" decided")?;
+    }
+    Ok(())
+}
+
+fn show_line<W: fmt::Write>(line: &[u8], f: &mut fmt::Formatter<W>) -> fmt::Result {
+    let count = line.len();
+    write!(f, "ok {count} ")?;
+    for digit in line {
+        f.write_char(*digit as char)?;
+    }
+    Ok(())
+}
+
+fn show_slot<W: fmt::Write>(slot: &Slot, f: &mut fmt::Formatter<W>) -> fmt::Result {
+    let len = slot.len;
+    let who = slot.by;
+    let taken = slot.taken as u8;
+    write!(f, "ok {len} {who} {taken} ")?;
+    for byte in slot.bytes.iter() {
+        let byte = *byte;
+        write!(f, "{byte:02x}")?;
     }
     Ok(())
 }

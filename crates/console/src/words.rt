@@ -72,6 +72,12 @@ impl<'a> Words<'a> {
         number(self.last_word()?)
     }
 
+    pub fn last_two(&mut self) -> Option<(u32, u32)> {
+        let first = self.number()?;
+        let second = self.last_number()?;
+        Some((first, second))
+    }
+
     pub fn last_batch(&mut self) -> Option<Batch> {
         let grower = self.number()?;
         let fruit = self.number()?;
