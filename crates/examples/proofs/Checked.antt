@@ -8,7 +8,9 @@ use lib.Dec.{eqb}
 use Rattle.std.specs.shelf.Lists.{All}
 use Rattle.std.proofs.shelf.Tests.{and-parts, eqb-true, both-ways}
 use Rattle.rules.specs.declared.rule.Outcome.{Outcome}
-use Rattle.examples.specs.Table.{Example, oil, levy, rotates, fills, builds, locks, Holds, same-outcome, same-list, passes, all-pass, gives, examples, All-hold}
+use Rattle.protocol.specs.Law.{works}
+use Rattle.protocol.specs.Steps.{in-range, fitting, whole-call, same-entry, backers, last-carry, issue, with-station, propose, decide, settle, own-entry, reselect, open-call, ring-call, mark-taken, take-proposal, meet-proposal, meet-decision, meet-reselect, meet, shows, deliver-call, next-number, announce, join, take-up, store, differs}
+use Rattle.examples.specs.Table.{Example, oil, levy, rotates, fills, builds, locks, plays, Holds, same-outcome, same-list, passes, all-pass, gives, examples, All-hold}
 
 outcome-same : (a b : Outcome) → same-outcome a b ≡ true → a ≡ b
 outcome-same a b e =
@@ -33,6 +35,7 @@ holds (oil c b o) e = outcome-same _ o e
 holds (levy c b o) e = outcome-same _ o e
 holds (rotates n t c l) e = list-same _ l e
 holds (fills n t c l) e = list-same _ l e
+holds (plays d intake w calls l) e = list-same _ l e
 holds (builds n t k) e = eqb-true _ k e
 holds (locks n t k) e = eqb-true _ k e
 
@@ -41,4 +44,5 @@ each [] e = tt
 each (x ∷ xs) e = let (head, tail) = and-parts (passes x) (all-pass xs) e in (holds x head, each xs tail)
 
 pub all-hold : All-hold
+unfolding works in-range fitting whole-call same-entry backers last-carry issue with-station propose decide settle own-entry reselect open-call ring-call mark-taken take-proposal meet-proposal meet-decision meet-reselect meet shows deliver-call next-number announce join take-up store differs
 all-hold = each examples refl
