@@ -4,12 +4,12 @@ use Rattle.evidence.proofs.Search.{begins_is, begins_not}
 use Rattle.evidence.proofs.forgery.begins.Goals as goal
 use Rattle.std.proofs.lemmas.Bool.Decides.{Decides-eqb}
 
-pub returns-then-is-of-step : goal.returns-then-is-of-step
-returns-then-is-of-step c =
+pub returns-then-is_of_step : goal.returns-then-is_of_step
+returns-then-is_of_step c =
     let s = c.args.statement.now in
     let frame = c.frame.result.now in
-    begins_is c.args.slot.now s frame c.starts-with.result c.if-is-of-step.ensures c.frame.ensures (omega arith)
-    (slice_eq-Decides Decides-eqb s (take (length s) frame) c.starts-with.result c.starts-with.ensures.value)
+    begins_is c.args.slot.now s frame c.starts_with.result c.if-is_of_step.ensures c.frame.ensures (omega arith)
+    (slice_eq-Decides Decides-eqb s (take (length s) frame) c.starts_with.result c.starts_with.ensures.value)
 
-pub returns-else-is-of-step : goal.returns-else-is-of-step
-returns-else-is-of-step c = c.if-is-of-step.false ∙ begins_not c.args.slot.now c.args.statement.now c.if-is-of-step.ensures
+pub returns-else-is_of_step : goal.returns-else-is_of_step
+returns-else-is_of_step c = c.if-is_of_step.false ∙ begins_not c.args.slot.now c.args.statement.now c.if-is_of_step.ensures

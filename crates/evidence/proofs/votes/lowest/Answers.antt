@@ -1,16 +1,16 @@
 use Rattle.std.proofs.Common.{◌≡◌, ◌+◌, ◌<◌, ◌≤◌, min, ◌⊎◌, length, sym, ◌∙◌, subst, inl, inr, arith}
 use Rattle.evidence.proofs.Backers.{Gathered, gathered_none, gathered_absent, gathered_other, gathered_more, gathered_all}
 use Rattle.evidence.proofs.votes.lowest.Goals as goal
-use Rattle.evidence.proofs.votes.lowest.Goals.{then-is-for, else-is-for, then-q-n-via-then-q-n, then-q-n-via-else-q-n+then-filled-min}
+use Rattle.evidence.proofs.votes.lowest.Goals.{then-is_for, else-is_for, then-q-n-via-then-q-n, then-q-n-via-else-q-n+then-filled-min}
 
 pub loop-q-init : goal.loop-q-init
 loop-q-init c = (omega arith, omega arith, gathered_none c.args.what c.args.votes.now)
 
-pub loop-q-preserved-in-default : goal.loop-q-preserved-in-default
-loop-q-preserved-in-default c = (
+pub loop-q-preserved-in_default : goal.loop-q-preserved-in_default
+loop-q-preserved-in_default c = (
   omega arith,
   c.loop-q.invariant.1,
-  gathered_absent c.args.what c.args.votes.now c.loop-q.q c.loop-q.filled c.loop-q.each _ (omega arith) c.in-default.is c.loop-q.invariant.2,
+  gathered_absent c.args.what c.args.votes.now c.loop-q.q c.loop-q.filled c.loop-q.each _ (omega arith) c.in_default.is c.loop-q.invariant.2,
 )
 
 pub loop-q-preserved : goal.loop-q-preserved
@@ -19,20 +19,20 @@ loop-q-preserved c =
     let votes = c.args.votes.now in
     let q = c.loop-q.q in
     let inside : q < length votes = omega arith in
-    elim c.if-is-for.branch [
+    elim c.if-is_for.branch [
       | then-is-for w ↦ (
         omega arith,
         omega (arith, w.filled-is, c.min.ensures, c.if-filled-min.false),
-        subst (λ n. Gathered e votes (q + 1) n c.if-is-for.each) (sym w.filled-is)
+        subst (λ n. Gathered e votes (q + 1) n c.if-is_for.each) (sym w.filled-is)
             (subst (Gathered e votes (q + 1) (c.loop-q.filled + 1)) (sym w.each-is)
-            (gathered_more e votes q c.loop-q.filled c.loop-q.each _ c.in-Some.vote inside c.in-Some.is (sym c.is_for.ensures ∙ w.if-is-for.true) (omega arith) c.loop-q.invariant.2)),
+            (gathered_more e votes q c.loop-q.filled c.loop-q.each _ c.in-Some.vote inside c.in-Some.is (sym c.is_for.ensures ∙ w.if-is_for.true) (omega arith) c.loop-q.invariant.2)),
       )
       | else-is-for w ↦ (
         omega arith,
         omega (arith, w.filled-is),
-        subst (λ n. Gathered e votes (q + 1) n c.if-is-for.each) (sym w.filled-is)
+        subst (λ n. Gathered e votes (q + 1) n c.if-is_for.each) (sym w.filled-is)
             (subst (Gathered e votes (q + 1) c.loop-q.filled) (sym w.each-is)
-            (gathered_other e votes q c.loop-q.filled c.loop-q.each _ c.in-Some.vote inside c.in-Some.is (sym c.is_for.ensures ∙ w.if-is-for.false) c.loop-q.invariant.2)),
+            (gathered_other e votes q c.loop-q.filled c.loop-q.each _ c.in-Some.vote inside c.in-Some.is (sym c.is_for.ensures ∙ w.if-is_for.false) c.loop-q.invariant.2)),
       )
     ]
 

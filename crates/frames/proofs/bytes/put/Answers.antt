@@ -4,4 +4,4 @@ use Rattle.frames.proofs.bytes.put.Goals as goal
 
 pub returns : goal.returns
 returns c =
-    put_mid-paste c.args.at _ c.args.dst.now c.copy-from-slice.new.self c.args.src.now _ c.copy-from-slice.ensures.after (omega arith) (omega arith)
+    put_mid-paste c.args.at _ c.args.dst.now c.copy_from_slice.new.self c.args.src.now _ c.copy_from_slice.ensures.after (omega arith) (omega arith)

@@ -21,41 +21,41 @@ exit : (n t batches : ℕ) (bs : List ℕ) (r : Result Head Fault) (x : Fault) �
 exit n t batches bs r x e h d =
     subst (Clauses n t batches bs) (sym e) (record { is = d; long = tt; both = both_ways n t batches bs h })
 
-pub returns-in-err-head : goal.returns-in-err-head
-returns-in-err-head c =
+pub returns-in_err-head : goal.returns-in_err-head
+returns-in_err-head c =
     let p = err_from_is_err_and c.from-residual.result c.from-residual.ensures.1 in
-    exit c.args.n c.args.t c.args.batches c.args.bytes.now c.from-residual.result c.in-err-head.field-0.0 (p.1 ∙ ap Err p.2) (bytes_from c.args.bytes.now (λ i. (c.type-inv.bytes i).fits))
+    exit c.args.n c.args.t c.args.batches c.args.bytes.now c.from-residual.result c.in_err-head.field-0.0 (p.1 ∙ ap Err p.2) (bytes_from c.args.bytes.now (λ i. (c.type_inv.bytes i).fits))
     (decode_head c.args.n c.args.t c.args.batches c.args.bytes.now
-    c.in-err-head.field-0.0 c.in-err-head.ensures.is)
+    c.in_err-head.field-0.0 c.in_err-head.ensures.is)
 
-pub returns-in-err-check-counts : goal.returns-in-err-check-counts
-returns-in-err-check-counts c =
-    let p = err_from_is_err_and c.from-residual-in-err-check-counts.result c.from-residual-in-err-check-counts.ensures.1 in
-    exit c.args.n c.args.t c.args.batches c.args.bytes.now c.from-residual-in-err-check-counts.result c.in-err-check-counts.field-0.0 (p.1 ∙ ap Err p.2) (bytes_from c.args.bytes.now (λ i. (c.type-inv.bytes i).fits))
-    (decode_counts c.args.n c.args.t c.args.batches c.args.bytes.now c.in-ok-head.head c.in-ok-head.ensures.is
-    c.in-err-check-counts.field-0.0 c.in-err-check-counts.ensures)
+pub returns-in_err-check_counts : goal.returns-in_err-check_counts
+returns-in_err-check_counts c =
+    let p = err_from_is_err_and c.from-residual-in_err-check_counts.result c.from-residual-in_err-check_counts.ensures.1 in
+    exit c.args.n c.args.t c.args.batches c.args.bytes.now c.from-residual-in_err-check_counts.result c.in_err-check_counts.field-0.0 (p.1 ∙ ap Err p.2) (bytes_from c.args.bytes.now (λ i. (c.type_inv.bytes i).fits))
+    (decode_counts c.args.n c.args.t c.args.batches c.args.bytes.now c.in_ok-head.head c.in_ok-head.ensures.is
+    c.in_err-check_counts.field-0.0 c.in_err-check_counts.ensures)
 
-pub returns-in-err-check-body : goal.returns-in-err-check-body
-returns-in-err-check-body c =
-    let p = err_from_is_err_and c.from-residual-in-err-check-body.result c.from-residual-in-err-check-body.ensures.1 in
-    exit c.args.n c.args.t c.args.batches c.args.bytes.now c.from-residual-in-err-check-body.result c.in-err-check-body.field-0.0 (p.1 ∙ ap Err p.2) (bytes_from c.args.bytes.now (λ i. (c.type-inv.bytes i).fits))
-    (decode_body c.args.n c.args.t c.args.batches c.args.bytes.now c.in-ok-head.head c.in-ok-head.ensures.is
-    c.in-ok-check-counts.field-0 c.in-ok-check-counts.ensures
-    c.in-err-check-body.field-0.0 c.in-err-check-body.ensures.is)
+pub returns-in_err-check_body : goal.returns-in_err-check_body
+returns-in_err-check_body c =
+    let p = err_from_is_err_and c.from-residual-in_err-check_body.result c.from-residual-in_err-check_body.ensures.1 in
+    exit c.args.n c.args.t c.args.batches c.args.bytes.now c.from-residual-in_err-check_body.result c.in_err-check_body.field-0.0 (p.1 ∙ ap Err p.2) (bytes_from c.args.bytes.now (λ i. (c.type_inv.bytes i).fits))
+    (decode_body c.args.n c.args.t c.args.batches c.args.bytes.now c.in_ok-head.head c.in_ok-head.ensures.is
+    c.in_ok-check_counts.field-0 c.in_ok-check_counts.ensures
+    c.in_err-check_body.field-0.0 c.in_err-check_body.ensures.is)
 
-pub returns-in-err-check-pairs : goal.returns-in-err-check-pairs
-returns-in-err-check-pairs c =
-    let p = err_from_is_err_and c.from-residual-in-err-check-pairs.result c.from-residual-in-err-check-pairs.ensures.1 in
-    exit c.args.n c.args.t c.args.batches c.args.bytes.now c.from-residual-in-err-check-pairs.result c.in-err-check-pairs.field-0.0 (p.1 ∙ ap Err p.2) (bytes_from c.args.bytes.now (λ i. (c.type-inv.bytes i).fits))
-    (decode_pairs c.args.n c.args.t c.args.batches c.args.bytes.now c.in-ok-head.head c.in-ok-head.ensures.is
-    c.in-ok-check-counts.field-0 c.in-ok-check-counts.ensures c.in-ok-check-body.field-0 c.in-ok-check-body.ensures.is
-    c.in-err-check-pairs.field-0.0 c.in-err-check-pairs.ensures)
+pub returns-in_err-check_pairs : goal.returns-in_err-check_pairs
+returns-in_err-check_pairs c =
+    let p = err_from_is_err_and c.from-residual-in_err-check_pairs.result c.from-residual-in_err-check_pairs.ensures.1 in
+    exit c.args.n c.args.t c.args.batches c.args.bytes.now c.from-residual-in_err-check_pairs.result c.in_err-check_pairs.field-0.0 (p.1 ∙ ap Err p.2) (bytes_from c.args.bytes.now (λ i. (c.type_inv.bytes i).fits))
+    (decode_pairs c.args.n c.args.t c.args.batches c.args.bytes.now c.in_ok-head.head c.in_ok-head.ensures.is
+    c.in_ok-check_counts.field-0 c.in_ok-check_counts.ensures c.in_ok-check_body.field-0 c.in_ok-check_body.ensures.is
+    c.in_err-check_pairs.field-0.0 c.in_err-check_pairs.ensures)
 
 pub returns : goal.returns
 returns c = record {
-  is = decode_all c.args.n c.args.t c.args.batches c.args.bytes.now c.in-ok-head.head c.in-ok-head.ensures.is
-      c.in-ok-check-counts.field-0 c.in-ok-check-counts.ensures c.in-ok-check-body.field-0 c.in-ok-check-body.ensures.is
-      c.in-ok-check-pairs.field-0 c.in-ok-check-pairs.ensures;
-  long = c.in-ok-check-body.ensures.long;
-  both = both_ways c.args.n c.args.t c.args.batches c.args.bytes.now (bytes_from c.args.bytes.now (λ i. (c.type-inv.bytes i).fits));
+  is = decode_all c.args.n c.args.t c.args.batches c.args.bytes.now c.in_ok-head.head c.in_ok-head.ensures.is
+      c.in_ok-check_counts.field-0 c.in_ok-check_counts.ensures c.in_ok-check_body.field-0 c.in_ok-check_body.ensures.is
+      c.in_ok-check_pairs.field-0 c.in_ok-check_pairs.ensures;
+  long = c.in_ok-check_body.ensures.long;
+  both = both_ways c.args.n c.args.t c.args.batches c.args.bytes.now (bytes_from c.args.bytes.now (λ i. (c.type_inv.bytes i).fits));
 }

@@ -3,4 +3,4 @@ use Rattle.frames.proofs.decode.read_frame.Goals as goal
 
 pub returns : goal.returns
 returns c =
-    frame_read c.args.bytes.now c.args.head c.requires.is c.read-entry.result c.tag-at.result c.read-pairs.result c.read-entry.ensures c.tag-at.ensures c.read-pairs.ensures
+    frame_read c.args.bytes.now c.args.head c.requires.is c.read_entry.result c.tag_at.result c.read_pairs.result c.read_entry.ensures c.tag_at.ensures c.read_pairs.ensures

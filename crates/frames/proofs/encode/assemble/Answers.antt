@@ -12,19 +12,19 @@ loop-pair-init c =
 
 pub loop-pair-preserved : goal.loop-pair-preserved
 loop-pair-preserved c = (
-  encode_more c.args.frame.now c.as-slice-pairs.result.now c.loop-pair.pair-index c.loop-pair.bytes c.join-bytes-in-loop-pair.result c.as-slice.result.now c.write-pair.result
-      c.loop-pair-test.true (few_listed c.args.frame.now c.as-slice-pairs.result.now c.as-slice-pairs.ensures.is) c.loop-pair.invariant.0 c.as-slice.ensures c.write-pair.ensures.is
+  encode_more c.args.frame.now c.as_slice-pairs.result.now c.loop-pair.pair-index c.loop-pair.bytes c.join-bytes-in-loop-pair.result c.as_slice.result.now c.write_pair.result
+      c.loop-pair-test.true (few_listed c.args.frame.now c.as_slice-pairs.result.now c.as_slice-pairs.ensures.is) c.loop-pair.invariant.0 c.as_slice.ensures c.write_pair.ensures.is
       c.join-bytes-in-loop-pair.ensures,
-  All-more (λ (p : Pair). p.tag < 2 ^ 64) c.as-slice-pairs.result.now c.loop-pair.pair-index no_pair c.loop-pair-test.true c.loop-pair.invariant.1 c.write-pair.ensures.fits,
+  All-more (λ (p : Pair). p.tag < 2 ^ 64) c.as_slice-pairs.result.now c.loop-pair.pair-index no_pair c.loop-pair-test.true c.loop-pair.invariant.1 c.write_pair.ensures.fits,
 )
 
 pub returns : goal.returns
 returns c =
     let is =
-    encode_all c.args.frame.now c.as-slice-pairs.result.now c.loop-pair.pair-index c.loop-pair.bytes c.as-slice-pairs.ensures.is c.loop-pair-test.false c.loop-pair.invariant.0 in
+    encode_all c.args.frame.now c.as_slice-pairs.result.now c.loop-pair.pair-index c.loop-pair.bytes c.as_slice-pairs.ensures.is c.loop-pair-test.false c.loop-pair.invariant.0 in
     record {
       is = is;
-      short = short_encoded c.args.frame.now c.as-slice-pairs.result.now c.as-slice-pairs.ensures.is;
-      back = encode_back c.args.frame.now c.as-slice-pairs.result.now c.loop-pair.pair-index c.as-slice-pairs.ensures.is c.as-slice-pairs.ensures.size c.loop-pair-test.false
+      short = short_encoded c.args.frame.now c.as_slice-pairs.result.now c.as_slice-pairs.ensures.is;
+      back = encode_back c.args.frame.now c.as_slice-pairs.result.now c.loop-pair.pair-index c.as_slice-pairs.ensures.is c.as_slice-pairs.ensures.size c.loop-pair-test.false
           c.requires.fits c.requires.small c.loop-pair.invariant.1;
     }

@@ -6,30 +6,30 @@ use Rattle.frames.proofs.line.read_digits.Goals as goal
 pub loop-k-init : goal.loop-k-init
 loop-k-init c = begun_none c.args.line.now
 
-pub overflow-mul-bytes : goal.overflow-mul-bytes
-overflow-mul-bytes c = let p : c.in-ok-digit-at.field-0 < 16 = (let q = digit_ok _ _ _ c.in-ok-digit-at.ensures in omega arith) in search rules
+pub overflow_mul-bytes : goal.overflow_mul-bytes
+overflow_mul-bytes c = let p : c.in_ok-digit_at.field-0 < 16 = (let q = digit_ok _ _ _ c.in_ok-digit_at.ensures in omega arith) in search rules
 
-pub overflow-add-bytes : goal.overflow-add-bytes
-overflow-add-bytes c =
-    let p : c.in-ok-digit-at.field-0 < 16 = (let q = digit_ok _ _ _ c.in-ok-digit-at.ensures in omega arith) in
-    let r : c.in-ok-bytes.field-0 < 16 = (let q = digit_ok _ _ _ c.in-ok-bytes.ensures in omega arith) in
+pub overflow_add-bytes : goal.overflow_add-bytes
+overflow_add-bytes c =
+    let p : c.in_ok-digit_at.field-0 < 16 = (let q = digit_ok _ _ _ c.in_ok-digit_at.ensures in omega arith) in
+    let r : c.in_ok-bytes.field-0 < 16 = (let q = digit_ok _ _ _ c.in_ok-bytes.ensures in omega arith) in
     search rules
 
-pub returns-in-err-digit-at : goal.returns-in-err-digit-at
-returns-in-err-digit-at c =
+pub returns-in_err-digit_at : goal.returns-in_err-digit_at
+returns-in_err-digit_at c =
     let p = err_from_is_err_and c.from-residual.result c.from-residual.ensures.1 in
-    let q = digit_err _ _ _ c.in-err-digit-at.ensures in
+    let q = digit_err _ _ _ c.in_err-digit_at.ensures in
     read_wrong c.args.line.now (2 * c.loop-k.k) c.from-residual.result
     c.requires
     (begun_first c.args.line.now c.loop-k.bytes c.loop-k.k c.loop-k.invariant (omega (arith, c.requires.even)) q.0)
     (p.1 ∙ ap Err (p.2 ∙ q.1))
 
-pub returns-in-err-bytes : goal.returns-in-err-bytes
-returns-in-err-bytes c =
-    let p = err_from_is_err_and c.from-residual-in-err-bytes.result c.from-residual-in-err-bytes.ensures.1 in
-    let o = digit_ok _ _ _ c.in-ok-digit-at.ensures in
-    let q = digit_err _ _ _ c.in-err-bytes.ensures in
-    read_wrong c.args.line.now (2 * c.loop-k.k + 1) c.from-residual-in-err-bytes.result
+pub returns-in_err-bytes : goal.returns-in_err-bytes
+returns-in_err-bytes c =
+    let p = err_from_is_err_and c.from-residual-in_err-bytes.result c.from-residual-in_err-bytes.ensures.1 in
+    let o = digit_ok _ _ _ c.in_ok-digit_at.ensures in
+    let q = digit_err _ _ _ c.in_err-bytes.ensures in
+    read_wrong c.args.line.now (2 * c.loop-k.k + 1) c.from-residual-in_err-bytes.result
     c.requires
     (begun_second c.args.line.now c.loop-k.bytes c.loop-k.k c.loop-k.invariant (omega (arith, c.requires.even)) o.0 q.0)
     (p.1 ∙ ap Err (p.2 ∙ q.1))
@@ -37,7 +37,7 @@ returns-in-err-bytes c =
 pub loop-k-preserved : goal.loop-k-preserved
 loop-k-preserved c =
     begun_more c.args.line.now c.loop-k.bytes c.loop-k.k _ _ c.loop-k.invariant (omega (arith, c.requires.even)) (omega (arith, c.requires.high))
-    (digit_ok _ _ _ c.in-ok-digit-at.ensures) (digit_ok _ _ _ c.in-ok-bytes.ensures)
+    (digit_ok _ _ _ c.in_ok-digit_at.ensures) (digit_ok _ _ _ c.in_ok-bytes.ensures)
 
 pub returns : goal.returns
 returns c =

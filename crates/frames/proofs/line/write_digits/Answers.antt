@@ -14,5 +14,5 @@ loop-k-preserved c =
 pub returns : goal.returns
 returns c = record {
   is = written_all c.args.frame.now c.args.buffer.now c.loop-k.buffer c.loop-k.k c.loop-k.invariant (omega arith);
-  one = one_line c.args.frame.now (bytes_from c.args.frame.now (λ i. (c.type-inv.frame i).fits));
+  one = one_line c.args.frame.now (bytes_from c.args.frame.now (λ i. (c.type_inv.frame i).fits));
 }

@@ -5,13 +5,13 @@ use Rattle.frames.proofs.pool.lowest_free.Goals as goal
 pub loop-k-init : goal.loop-k-init
 loop-k-init c = seen_none c.args.pool.now
 
-pub returns-then-is-free : goal.returns-then-is-free
-returns-then-is-free c =
-    let f = found_here c.args.pool.now c.loop-k.k c.loop-k-test.true (sym c.if-is-free.ensures) c.loop-k.invariant in
+pub returns-then-is_free : goal.returns-then-is_free
+returns-then-is_free c =
+    let f = found_here c.args.pool.now c.loop-k.k c.loop-k-test.true (sym c.if-is_free.ensures) c.loop-k.invariant in
     record { is = f.is; inside = f.inside; behind = f.behind; place = f.place; full = f.full }
 
 pub loop-k-preserved : goal.loop-k-preserved
-loop-k-preserved c = seen_more c.args.pool.now c.loop-k.k c.loop-k-test.true (sym c.if-is-free.ensures) c.loop-k.invariant
+loop-k-preserved c = seen_more c.args.pool.now c.loop-k.k c.loop-k-test.true (sym c.if-is_free.ensures) c.loop-k.invariant
 
 pub returns : goal.returns
 returns c =

@@ -7,5 +7,5 @@ use Rattle.hall.proofs.ready.vote_free.Goals as goal
 
 pub returns-in-default·2 : goal.returns-in-default·2
 returns-in-default·2 c =
-    let past = ltb-false _ _ (sym c.in-default.ensures.lookup.0) in
+    let past = ltb-false _ _ (sym c.in_default.ensures.lookup.0) in
     sym (ap (λ v. passing (not (held v)) VoteHeld (Ok tt)) (get_or_past c.args.st.now.votes c.args.q None past))

@@ -4,8 +4,8 @@ use Rattle.policies.specs.Masks.{masks, binomial}
 use Rattle.policies.specs.MasksLemmas.{sound, step_low, step_high}
 use Rattle.policies.proofs.full.mask.Goals as goal
 
-pub overflow-add-found : goal.overflow-add-found
-overflow-add-found c =
+pub overflow_add-found : goal.overflow_add-found
+overflow_add-found c =
     let w = c.ways-without.ensures in
     let l : binomial (c.loop-b.b - 1) c.loop-b.left ≤ c.loop-b.rest = omega (arith, c.if-rest-without.true) in
     let s = step_high c.loop-b.b c.loop-b.left c.loop-b.rest c.loop-b-test.true c.loop-b.invariant.1 l in
@@ -14,8 +14,8 @@ overflow-add-found c =
     let o = one_shl (c.loop-b.b - 1) 32 (omega arith) in
     omega (arith, c.loop-b.invariant.2)
 
-pub overflow-sub-left : goal.overflow-sub-left
-overflow-sub-left c =
+pub overflow_sub-left : goal.overflow_sub-left
+overflow_sub-left c =
     let w = c.ways-without.ensures in
     (step_high c.loop-b.b c.loop-b.left c.loop-b.rest c.loop-b-test.true c.loop-b.invariant.1 (omega (arith, c.if-rest-without.true))).0
 

@@ -5,12 +5,12 @@ use Rattle.rules.proofs.clerk.clerk.Goals as goal
 pub loop-b-preserved : goal.loop-b-preserved
 loop-b-preserved g c =
     let within : c.loop-b.b-index < length c.args.intake.now = omega arith in
-    booked _ _ _ _ _ _ _ within c.loop-b.invariant _ _ _ c.in-Some.ensures c.work-out-entry.ensures c.in-ok-push.ensures.items
+    booked _ _ _ _ _ _ _ within c.loop-b.invariant _ _ _ c.in-Some.ensures c.work_out-entry.ensures c.in_ok-push.ensures.items
 
-pub returns-in-default : goal.returns-in-default
-returns-in-default g c =
+pub returns-in_default : goal.returns-in_default
+returns-in_default g c =
     let within : c.loop-b.b-index < length c.args.intake.now = omega arith in
-    ended _ _ _ _ _ _ _ within c.loop-b.invariant c.in-default.ensures
+    ended _ _ _ _ _ _ _ within c.loop-b.invariant c.in_default.ensures
 
 pub returns : goal.returns
 returns g c =

@@ -14,7 +14,7 @@ loop-p-init c = refl
 pub loop-p-preserved : goal.loop-p-preserved
 loop-p-preserved c =
     let m = more (picked c.args.words.now c.args.first c.args.statement.now) c.loop-p.p in
-    let h = c.rotate-left-tag.ensures in
+    let h = c.rotate_left-tag.ensures in
     let w = c.word.ensures in
     let i = c.loop-p.invariant in
     cc

@@ -5,12 +5,12 @@ use Rattle.hall.proofs.Lawful.{sound_table}
 use Rattle.hall.proofs.Ranges.{few_batches, entries_fit}
 use Rattle.hall.proofs.setup.Setup.admit.Goals as goal
 
-pub overflow-mul-entries : goal.overflow-mul-entries
-overflow-mul-entries g c =
+pub overflow_mul-entries : goal.overflow_mul-entries
+overflow_mul-entries g c =
     let j = c.args.self.now in
     let table = sound_table j.table.n j.table.t j.table.marks j.table.ok in
     let few = table.few in
-    let short = few_batches (terms g.R.Rule g.P.Policy g.S.Check j) (sym c.if-not-in-range.ensures) in
+    let short = few_batches (terms g.R.Rule g.P.Policy g.S.Check j) (sym c.if-not-in_range.ensures) in
     let n = c.stations.ensures in
     omega (arith, entries_fit c.stations.result j.batches (omega arith) short)
 

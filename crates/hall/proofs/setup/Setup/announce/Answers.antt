@@ -6,7 +6,7 @@ use Rattle.hall.proofs.setup.Setup.announce.Goals as goal
 pub returns-then-seated : goal.returns-then-seated
 returns-then-seated g c =
     let a = c.args in
-    c.call-up.ensures ∙ announced_left (terms g.R.Rule g.P.Policy g.S.Check a.self.now) a.i a.batch a.c a.proof a.pool.now c.if-seated.ensures
+    c.call_up.ensures ∙ announced_left (terms g.R.Rule g.P.Policy g.S.Check a.self.now) a.i a.batch a.c a.proof a.pool.now c.if-seated.ensures
 
 pub returns-then-not-seated : goal.returns-then-not-seated
 returns-then-not-seated g c =
@@ -16,5 +16,5 @@ returns-then-not-seated g c =
 pub returns : goal.returns
 returns g c =
     let a = c.args in
-    c.call-up-2.ensures
+    c.call_up-2.ensures
     ∙ announced_next (terms g.R.Rule g.P.Policy g.S.Check a.self.now) a.i a.batch a.c a.proof a.pool.now c.if-seated.ensures c.if-not-seated.ensures (c.requires.shown (sym c.if-seated.ensures))

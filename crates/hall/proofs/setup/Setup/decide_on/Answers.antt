@@ -8,10 +8,10 @@ pub bounds-books-place : goal.bounds-books-place
 bounds-books-place g c =
     let p = c.requires.placed in
     let inside = in_books _ _ _ _ _ p.there p.left p.shape in
-    let at = c.book-place-place.ensures in
+    let at = c.book_place-place.ensures in
     omega (arith, inside)
 
 pub returns : goal.returns
 returns g c =
     let a = c.args in
-    decided (terms g.R.Rule g.P.Policy g.S.Check a.self.now) a.i a.entry a.pairs a.st.now a.pool.now c.send.new.pool a.books.now _ c.book-place-place.ensures c.requires.quorum c.send.ensures.row
+    decided (terms g.R.Rule g.P.Policy g.S.Check a.self.now) a.i a.entry a.pairs a.st.now a.pool.now c.send.new.pool a.books.now _ c.book_place-place.ensures c.requires.quorum c.send.ensures.row

@@ -8,53 +8,53 @@ use Rattle.hall.specs.Parts.{States}
 use Rattle.hall.proofs.Tested.{steady_record, deliver_early, deliver_refused}
 use Rattle.hall.proofs.setup.Setup.deliver_ready.Goals as goal
 
-pub returns-in-err-stands : goal.returns-in-err-stands
-returns-in-err-stands g c =
+pub returns-in_err-stands : goal.returns-in_err-stands
+returns-in_err-stands g c =
     let a = c.args in
     let p = err_from_is_err_and c.from-residual.result c.from-residual.ensures.1 in
     record {
       is =
           rw (p.1, p.2)
-          (deliver_early (terms g.R.Rule g.P.Policy g.S.Check a.self.now) a.i (get_or a.stations.now a.i no_station) a.pool.now a.f _ c.in-err-stands.ensures);
-      says = subst (States c.args.self.now.table.n c.args.self.now.table.t c.args.self.now.batches) c.frame-in-bytes.ensures c.decode-decoded.ensures.says;
+          (deliver_early (terms g.R.Rule g.P.Policy g.S.Check a.self.now) a.i (get_or a.stations.now a.i no_station) a.pool.now a.f _ c.in_err-stands.ensures);
+      says = subst (States c.args.self.now.table.n c.args.self.now.table.t c.args.self.now.batches) c.frame_in-bytes.ensures c.decode-decoded.ensures.says;
     }
 
-pub returns-then-not-is-lawful : goal.returns-then-not-is-lawful
+pub returns-then-not-is_lawful : goal.returns-then-not-is_lawful
 unfolding deliver_ready
-returns-then-not-is-lawful g c = record { is = search rules; says = subst (States c.args.self.now.table.n c.args.self.now.table.t c.args.self.now.batches) c.frame-in-bytes.ensures c.decode-decoded.ensures.says }
+returns-then-not-is_lawful g c = record { is = search rules; says = subst (States c.args.self.now.table.n c.args.self.now.table.t c.args.self.now.batches) c.frame_in-bytes.ensures c.decode-decoded.ensures.says }
 
-pub returns-then-is-empty : goal.returns-then-is-empty
+pub returns-then-is_empty : goal.returns-then-is_empty
 unfolding deliver_ready
-returns-then-is-empty g c = record { is = search rules; says = subst (States c.args.self.now.table.n c.args.self.now.table.t c.args.self.now.batches) c.frame-in-bytes.ensures c.decode-decoded.ensures.says }
+returns-then-is_empty g c = record { is = search rules; says = subst (States c.args.self.now.table.n c.args.self.now.table.t c.args.self.now.batches) c.frame_in-bytes.ensures c.decode-decoded.ensures.says }
 
-pub returns-in-err-roomy : goal.returns-in-err-roomy
+pub returns-in_err-roomy : goal.returns-in_err-roomy
 unfolding deliver_ready
-returns-in-err-roomy g c = record { is = search rules; says = subst (States c.args.self.now.table.n c.args.self.now.table.t c.args.self.now.batches) c.frame-in-bytes.ensures c.decode-decoded.ensures.says }
+returns-in_err-roomy g c = record { is = search rules; says = subst (States c.args.self.now.table.n c.args.self.now.table.t c.args.self.now.batches) c.frame_in-bytes.ensures c.decode-decoded.ensures.says }
 
-pub returns-in-err-frame : goal.returns-in-err-frame
+pub returns-in_err-frame : goal.returns-in_err-frame
 unfolding deliver_ready
-returns-in-err-frame g c = record { is = search rules; says = subst (States c.args.self.now.table.n c.args.self.now.table.t c.args.self.now.batches) c.frame-in-bytes.ensures c.decode-decoded.ensures.says }
+returns-in_err-frame g c = record { is = search rules; says = subst (States c.args.self.now.table.n c.args.self.now.table.t c.args.self.now.batches) c.frame_in-bytes.ensures c.decode-decoded.ensures.says }
 
-pub frame-ready-requires : goal.frame-ready-requires
-frame-ready-requires g c =
-    let (low, left) = steady_record c.args.self.now.batches c.args.stations.now c.args.i c.record-at-st.result.now
-    c.requires.steady c.requires.short c.record-at-st.ensures (sym c.if-not-is-lawful.ensures) in
+pub frame_ready-requires : goal.frame_ready-requires
+frame_ready-requires g c =
+    let (low, left) = steady_record c.args.self.now.batches c.args.stations.now c.args.i c.record_at-st.result.now
+    c.requires.steady c.requires.short c.record_at-st.ensures (sym c.if-not-is_lawful.ensures) in
     record { number = low; booked = left }
 
-pub returns-in-err-frame-ready : goal.returns-in-err-frame-ready
-returns-in-err-frame-ready g c =
+pub returns-in_err-frame_ready : goal.returns-in_err-frame_ready
+returns-in_err-frame_ready g c =
     let a = c.args in
-    let p = err_from_is_err_and c.from-residual-in-err-frame-ready.result c.from-residual-in-err-frame-ready.ensures.1 in
+    let p = err_from_is_err_and c.from-residual-in_err-frame_ready.result c.from-residual-in_err-frame_ready.ensures.1 in
     record {
       is =
           rw (p.1, p.2)
           (deliver_refused (terms g.R.Rule g.P.Policy g.S.Check a.self.now) a.i (get_or a.stations.now a.i no_station) a.pool.now
-          a.f c.record-at-st.result.now c.frame-in-bytes.result.now c.in-ok-frame.frame _
-          c.in-ok-stands.ensures c.record-at-st.ensures (sym c.if-not-is-lawful.ensures) c.frame-in-bytes.ensures (search rules)
-          c.in-ok-roomy.ensures (sym c.in-ok-frame.was ∙ c.decode-decoded.ensures.is) c.in-err-frame-ready.ensures);
-      says = subst (States c.args.self.now.table.n c.args.self.now.table.t c.args.self.now.batches) c.frame-in-bytes.ensures c.decode-decoded.ensures.says;
+          a.f c.record_at-st.result.now c.frame_in-bytes.result.now c.in_ok-frame.frame _
+          c.in_ok-stands.ensures c.record_at-st.ensures (sym c.if-not-is_lawful.ensures) c.frame_in-bytes.ensures (search rules)
+          c.in_ok-roomy.ensures (sym c.in_ok-frame.was ∙ c.decode-decoded.ensures.is) c.in_err-frame_ready.ensures);
+      says = subst (States c.args.self.now.table.n c.args.self.now.table.t c.args.self.now.batches) c.frame_in-bytes.ensures c.decode-decoded.ensures.says;
     }
 
 pub returns : goal.returns
 unfolding deliver_ready
-returns g c = record { is = search rules; says = subst (States c.args.self.now.table.n c.args.self.now.table.t c.args.self.now.batches) c.frame-in-bytes.ensures c.decode-decoded.ensures.says }
+returns g c = record { is = search rules; says = subst (States c.args.self.now.table.n c.args.self.now.table.t c.args.self.now.batches) c.frame_in-bytes.ensures c.decode-decoded.ensures.says }

@@ -6,18 +6,18 @@ use Rattle.hall.specs.Join.{terms}
 use Rattle.hall.proofs.Desks.{still_placed, joined_up}
 use Rattle.hall.proofs.setup.Setup.join_on.Goals as goal
 
-pub settle-on-requires : goal.settle-on-requires
-settle-on-requires g c =
+pub settle_on-requires : goal.settle_on-requires
+settle_on-requires g c =
     let a = c.args in
     let d = terms g.R.Rule g.P.Policy g.S.Check a.self.now in
     let k : Desk = desk a.st.now a.pool.now a.books.now in
-    let k₁ : Desk = desk c.propose-on-entry.new.st c.propose-on-entry.new.pool a.books.now in
-    let kept : Steady k k₁ false false = subst (λ x. Steady k x false false) (sym c.propose-on-entry.ensures.same) (propose_steady d a.i k) in
+    let k₁ : Desk = desk c.propose_on-entry.new.st c.propose_on-entry.new.pool a.books.now in
+    let kept : Steady k k₁ false false = subst (λ x. Steady k x false false) (sym c.propose_on-entry.ensures.same) (propose_steady d a.i k) in
     still_placed d a.i (length a.books.now) k k₁ false kept c.requires.placed
 
 pub returns : goal.returns
 returns g c =
     let a = c.args in
     joined_up (terms g.R.Rule g.P.Policy g.S.Check a.self.now) a.i (desk a.st.now a.pool.now a.books.now)
-    (desk c.propose-on-entry.new.st c.propose-on-entry.new.pool a.books.now) c.propose-on-entry.result _
-    c.propose-on-entry.ensures.same c.propose-on-entry.ensures.own c.settle_on.ensures
+    (desk c.propose_on-entry.new.st c.propose_on-entry.new.pool a.books.now) c.propose_on-entry.result _
+    c.propose_on-entry.ensures.same c.propose_on-entry.ensures.own c.settle_on.ensures

@@ -2,25 +2,25 @@ use Rattle.std.proofs.Common.{rules}
 use Rattle.protocol.specs.Ready.{open_ready}
 use Rattle.hall.proofs.setup.Setup.open_ready.Goals as goal
 
-pub returns-in-err-stands : goal.returns-in-err-stands
+pub returns-in_err-stands : goal.returns-in_err-stands
 unfolding open_ready
-returns-in-err-stands g c = search rules
+returns-in_err-stands g c = search rules
 
-pub returns-then-is-lawful : goal.returns-then-is-lawful
+pub returns-then-is_lawful : goal.returns-then-is_lawful
 unfolding open_ready
-returns-then-is-lawful g c = search rules
+returns-then-is_lawful g c = search rules
 
 pub returns-then-st-self : goal.returns-then-st-self
 unfolding open_ready
 returns-then-st-self g c = search rules
 
-pub returns-in-default : goal.returns-in-default
+pub returns-in_default : goal.returns-in_default
 unfolding open_ready
-returns-in-default g c = search rules
+returns-in_default g c = search rules
 
-pub returns-in-err-roomy : goal.returns-in-err-roomy
+pub returns-in_err-roomy : goal.returns-in_err-roomy
 unfolding open_ready
-returns-in-err-roomy g c = search rules
+returns-in_err-roomy g c = search rules
 
 pub returns : goal.returns
 unfolding open_ready

@@ -5,8 +5,8 @@ use Rattle.hall.proofs.Desks.{own_stored, proposed}
 use Rattle.hall.proofs.Ranges.{in_books}
 use Rattle.hall.proofs.setup.Setup.propose_on.Goals as goal
 
-pub last-carry-requires : goal.last-carry-requires
-last-carry-requires g c =
+pub last_carry-requires : goal.last_carry-requires
+last_carry-requires g c =
     let p = c.requires.placed in
     let inside = in_books _ _ _ _ _ p.there p.left p.shape in
     let there = p.there in
@@ -20,12 +20,12 @@ returns g c =
     let there = p.there in
     let few = p.few in
     let places = p.votes in
-    let vote : Vote = record { entry = c.work-out-entry.result; tag = c.send-tag.result } in
+    let vote : Vote = record { entry = c.work_out-entry.result; tag = c.send-tag.result } in
     let inside : a.i < length a.st.now.votes = omega arith in
     record {
       own = sym (own_stored a.i vote a.st.now inside);
       same =
           proposed (terms g.R.Rule g.P.Policy g.S.Check a.self.now) a.i a.st.now a.pool.now c.send-tag.new.pool a.books.now
-          c.in-Some.batch.batch c.last_carry.result c.work-out-entry.result c.send-tag.result
-          c.in-Some.ensures c.last_carry.ensures c.work-out-entry.ensures c.send-tag.ensures.answer c.send-tag.ensures.row;
+          c.in-Some.batch.batch c.last_carry.result c.work_out-entry.result c.send-tag.result
+          c.in-Some.ensures c.last_carry.ensures c.work_out-entry.ensures c.send-tag.ensures.answer c.send-tag.ensures.row;
     }

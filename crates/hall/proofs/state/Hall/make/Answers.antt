@@ -4,8 +4,8 @@ use Rattle.hall.proofs.Lawful.{owes}
 use Rattle.hall.proofs.Ranges.{all_idle}
 use Rattle.hall.proofs.state.Hall.make.Goals as goal
 
-pub invariant-of-result : goal.invariant-of-result
-invariant-of-result g c = (all_idle c.args.batches, tt)
+pub invariant_of-result : goal.invariant_of-result
+invariant_of-result g c = (all_idle c.args.batches, tt)
 
 pub returns : goal.returns
 returns g c =

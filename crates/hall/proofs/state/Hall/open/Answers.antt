@@ -8,29 +8,29 @@ use Rattle.hall.specs.Join.{terms}
 use Rattle.hall.proofs.Whole.{admits, not_admitted, steady_after, any_default, counts, intake_long, short, open_refused, open_place, open_done}
 use Rattle.hall.proofs.state.Hall.open.Goals as goal
 
-pub returns-in-err-admit : goal.returns-in-err-admit
-returns-in-err-admit g c =
+pub returns-in_err-admit : goal.returns-in_err-admit
+returns-in_err-admit g c =
     let a = c.args in
     let d = (terms g.R.Rule g.P.Policy g.S.Check a.self.now.setup) in
-    let e = not_admitted d a.intake.now (opening a.i) (world a.self.now.stations a.pool.now a.books.now) c.in-err-admit.field-0.0
-    (c.in-err-admit.ensures.same ∙ admits d a.intake.now a.self.now.stations a.pool.now a.books.now) in
+    let e = not_admitted d a.intake.now (opening a.i) (world a.self.now.stations a.pool.now a.books.now) c.in_err-admit.field-0.0
+    (c.in_err-admit.ensures.same ∙ admits d a.intake.now a.self.now.stations a.pool.now a.books.now) in
     record { setup = refl; call = search rules }
 
-pub open-ready-requires : goal.open-ready-requires
-open-ready-requires g c =
+pub open_ready-requires : goal.open_ready-requires
+open_ready-requires g c =
     let a = c.args in
     let d = (terms g.R.Rule g.P.Policy g.S.Check a.self.now.setup) in
     let k = (counts g.R.Rule g.P.Policy g.S.Check a.self.now.setup a.self.now.stations a.self.now.steady) in
-    let f = c.in-ok-admit.ensures.same in
+    let f = c.in_ok-admit.ensures.same in
     intake_long d a.intake.now a.self.now.stations a.pool.now a.books.now k f
 
-pub returns-in-err-batch : goal.returns-in-err-batch
-returns-in-err-batch g c =
+pub returns-in_err-batch : goal.returns-in_err-batch
+returns-in_err-batch g c =
     let a = c.args in
     let d = (terms g.R.Rule g.P.Policy g.S.Check a.self.now.setup) in
     let k = (counts g.R.Rule g.P.Policy g.S.Check a.self.now.setup a.self.now.stations a.self.now.steady) in
-    let f = c.in-ok-admit.ensures.same in
-    let e = open_refused d a.intake.now a.self.now.stations a.pool.now a.books.now k f a.i (get_or a.self.now.stations a.i no_station) refl c.in-err-batch.field-0.0 c.in-err-batch.ensures in
+    let f = c.in_ok-admit.ensures.same in
+    let e = open_refused d a.intake.now a.self.now.stations a.pool.now a.books.now k f a.i (get_or a.self.now.stations a.i no_station) refl c.in_err-batch.field-0.0 c.in_err-batch.ensures in
     record { setup = refl; call = search rules }
 
 pub bounds-self-i : goal.bounds-self-i
@@ -38,42 +38,42 @@ bounds-self-i g c =
     let a = c.args in
     let d = (terms g.R.Rule g.P.Policy g.S.Check a.self.now.setup) in
     let k = (counts g.R.Rule g.P.Policy g.S.Check a.self.now.setup a.self.now.stations a.self.now.steady) in
-    let f = c.in-ok-admit.ensures.same in
-    let near = open_place d a.intake.now a.self.now.stations a.pool.now a.books.now k f a.i (get_or a.self.now.stations a.i no_station) refl c.in-ok-batch.batch.batch c.in-ok-batch.ensures in
+    let f = c.in_ok-admit.ensures.same in
+    let near = open_place d a.intake.now a.self.now.stations a.pool.now a.books.now k f a.i (get_or a.self.now.stations a.i no_station) refl c.in_ok-batch.batch.batch c.in_ok-batch.ensures in
     let there = near.there in
     let few = near.few in
     omega arith
 
-pub open-on-requires : goal.open-on-requires
-open-on-requires g c =
+pub open_on-requires : goal.open_on-requires
+open_on-requires g c =
     let a = c.args in
     let d = (terms g.R.Rule g.P.Policy g.S.Check a.self.now.setup) in
     let k = (counts g.R.Rule g.P.Policy g.S.Check a.self.now.setup a.self.now.stations a.self.now.steady) in
-    let f = c.in-ok-admit.ensures.same in
+    let f = c.in_ok-admit.ensures.same in
     let nil : Station = (record { booked = 0; work = no_batch; number = 0; proposed = false; votes = [] }) in
-    let near = open_place d a.intake.now a.self.now.stations a.pool.now a.books.now k f a.i (get_or a.self.now.stations a.i no_station) refl c.in-ok-batch.batch.batch c.in-ok-batch.ensures in
+    let near = open_place d a.intake.now a.self.now.stations a.pool.now a.books.now k f a.i (get_or a.self.now.stations a.i no_station) refl c.in_ok-batch.batch.batch c.in_ok-batch.ensures in
     let there = near.there in
     let few = near.few in
     let places = k.places in
     let inside : a.i < length a.self.now.stations = omega arith in
     let is = any_default a.self.now.stations a.i nil no_station inside in
-    open_place d a.intake.now a.self.now.stations a.pool.now a.books.now k f a.i (get_or a.self.now.stations a.i nil) is c.in-ok-batch.batch.batch c.in-ok-batch.ensures
+    open_place d a.intake.now a.self.now.stations a.pool.now a.books.now k f a.i (get_or a.self.now.stations a.i nil) is c.in_ok-batch.batch.batch c.in_ok-batch.ensures
 
-pub invariant-of-self-2 : goal.invariant-of-self-2
-invariant-of-self-2 g c =
+pub invariant_of-self-2 : goal.invariant_of-self-2
+invariant_of-self-2 g c =
     let a = c.args in
     let d = (terms g.R.Rule g.P.Policy g.S.Check a.self.now.setup) in
     let k = (counts g.R.Rule g.P.Policy g.S.Check a.self.now.setup a.self.now.stations a.self.now.steady) in
-    let f = c.in-ok-admit.ensures.same in
+    let f = c.in_ok-admit.ensures.same in
     let nil : Station = (record { booked = 0; work = no_batch; number = 0; proposed = false; votes = [] }) in
-    let near = open_place d a.intake.now a.self.now.stations a.pool.now a.books.now k f a.i (get_or a.self.now.stations a.i no_station) refl c.in-ok-batch.batch.batch c.in-ok-batch.ensures in
+    let near = open_place d a.intake.now a.self.now.stations a.pool.now a.books.now k f a.i (get_or a.self.now.stations a.i no_station) refl c.in_ok-batch.batch.batch c.in_ok-batch.ensures in
     let there = near.there in
     let few = near.few in
     let places = k.places in
     let inside : a.i < length a.self.now.stations = omega arith in
     let is = any_default a.self.now.stations a.i nil no_station inside in (
       steady_after d few refl a.intake.now (opening a.i) (world a.self.now.stations a.pool.now a.books.now) _
-          (open_done d a.intake.now a.self.now.stations a.pool.now a.books.now k f a.i (get_or a.self.now.stations a.i nil) is c.in-ok-batch.batch.batch c.in-ok-batch.ensures _ _ _ _ c.open_on.ensures) a.self.now.steady,
+          (open_done d a.intake.now a.self.now.stations a.pool.now a.books.now k f a.i (get_or a.self.now.stations a.i nil) is c.in_ok-batch.batch.batch c.in_ok-batch.ensures _ _ _ _ c.open_on.ensures) a.self.now.steady,
       tt,
     )
 
@@ -82,9 +82,9 @@ returns g c =
     let a = c.args in
     let d = (terms g.R.Rule g.P.Policy g.S.Check a.self.now.setup) in
     let k = (counts g.R.Rule g.P.Policy g.S.Check a.self.now.setup a.self.now.stations a.self.now.steady) in
-    let f = c.in-ok-admit.ensures.same in
+    let f = c.in_ok-admit.ensures.same in
     let nil : Station = (record { booked = 0; work = no_batch; number = 0; proposed = false; votes = [] }) in
-    let near = open_place d a.intake.now a.self.now.stations a.pool.now a.books.now k f a.i (get_or a.self.now.stations a.i no_station) refl c.in-ok-batch.batch.batch c.in-ok-batch.ensures in
+    let near = open_place d a.intake.now a.self.now.stations a.pool.now a.books.now k f a.i (get_or a.self.now.stations a.i no_station) refl c.in_ok-batch.batch.batch c.in_ok-batch.ensures in
     let there = near.there in
     let few = near.few in
     let places = k.places in
@@ -92,5 +92,5 @@ returns g c =
     let is = any_default a.self.now.stations a.i nil no_station inside in
     record {
       setup = refl;
-      call = open_done d a.intake.now a.self.now.stations a.pool.now a.books.now k f a.i (get_or a.self.now.stations a.i nil) is c.in-ok-batch.batch.batch c.in-ok-batch.ensures _ _ _ _ c.open_on.ensures;
+      call = open_done d a.intake.now a.self.now.stations a.pool.now a.books.now k f a.i (get_or a.self.now.stations a.i nil) is c.in_ok-batch.batch.batch c.in_ok-batch.ensures _ _ _ _ c.open_on.ensures;
     }

@@ -6,49 +6,49 @@ use Rattle.hall.proofs.Asked.{read_unadmitted, read_unknown, read_unbooked, read
 use Rattle.hall.proofs.Whole.{counts}
 use Rattle.hall.proofs.state.Hall.read.Goals as goal
 
-pub returns-in-err-admit : goal.returns-in-err-admit
-returns-in-err-admit g c =
+pub returns-in_err-admit : goal.returns-in_err-admit
+returns-in_err-admit g c =
     let a = c.args in
     let d = (terms g.R.Rule g.P.Policy g.S.Check a.self.now.setup) in
     let p = err_from_is_err_and c.from-residual.result c.from-residual.ensures.1 in
-    rw (p.1, p.2) (read_unadmitted d a.intake.now a.self.now.stations a.pool.now a.books.now a.i a.k _ c.in-err-admit.ensures.same)
+    rw (p.1, p.2) (read_unadmitted d a.intake.now a.self.now.stations a.pool.now a.books.now a.i a.k _ c.in_err-admit.ensures.same)
 
-pub returns-in-err-stands : goal.returns-in-err-stands
-returns-in-err-stands g c =
+pub returns-in_err-stands : goal.returns-in_err-stands
+returns-in_err-stands g c =
     let a = c.args in
     let d = (terms g.R.Rule g.P.Policy g.S.Check a.self.now.setup) in
-    let f = c.in-ok-admit.ensures.same in
-    let p = err_from_is_err_and c.from-residual-in-err-stands.result c.from-residual-in-err-stands.ensures.1 in
-    rw (p.1, p.2) (read_unknown d a.intake.now a.self.now.stations a.pool.now a.books.now a.i a.k f _ c.in-err-stands.ensures)
+    let f = c.in_ok-admit.ensures.same in
+    let p = err_from_is_err_and c.from-residual-in_err-stands.result c.from-residual-in_err-stands.ensures.1 in
+    rw (p.1, p.2) (read_unknown d a.intake.now a.self.now.stations a.pool.now a.books.now a.i a.k f _ c.in_err-stands.ensures)
 
-pub returns-then-not-is-booked : goal.returns-then-not-is-booked
-returns-then-not-is-booked g c =
+pub returns-then-not-is_booked : goal.returns-then-not-is_booked
+returns-then-not-is_booked g c =
     let a = c.args in
     let d = (terms g.R.Rule g.P.Policy g.S.Check a.self.now.setup) in
-    let f = c.in-ok-admit.ensures.same in
-    read_unbooked d a.intake.now a.self.now.stations a.pool.now a.books.now a.i a.k f c.in-ok-stands.ensures _ (ap (λ (s : Station). s.booked) c.record-at.ensures) _ c.if-not-is-booked.ensures c.new.ensures
+    let f = c.in_ok-admit.ensures.same in
+    read_unbooked d a.intake.now a.self.now.stations a.pool.now a.books.now a.i a.k f c.in_ok-stands.ensures _ (ap (λ (s : Station). s.booked) c.record_at.ensures) _ c.if-not-is_booked.ensures c.new.ensures
 
-pub offset-bounds-books-i : goal.offset-bounds-books-i
-offset-bounds-books-i g c =
+pub offset_bounds-books-i : goal.offset_bounds-books-i
+offset_bounds-books-i g c =
     let a = c.args in
     let d = (terms g.R.Rule g.P.Policy g.S.Check a.self.now.setup) in
-    let f = c.in-ok-admit.ensures.same in
+    let f = c.in_ok-admit.ensures.same in
     let k = counts g.R.Rule g.P.Policy g.S.Check a.self.now.setup a.self.now.stations a.self.now.steady in
-    let (one, inside) = read_place d a.intake.now a.self.now.stations a.pool.now a.books.now a.i a.k f c.in-ok-stands.ensures c.record-at.result.now.booked (ap (λ (s : Station). s.booked) c.record-at.ensures) k c.if-not-is-booked.ensures in
+    let (one, inside) = read_place d a.intake.now a.self.now.stations a.pool.now a.books.now a.i a.k f c.in_ok-stands.ensures c.record_at.result.now.booked (ap (λ (s : Station). s.booked) c.record_at.ensures) k c.if-not-is_booked.ensures in
     omega arith
 
 pub bounds-books-i : goal.bounds-books-i
 bounds-books-i g c =
     let a = c.args in
     let d = (terms g.R.Rule g.P.Policy g.S.Check a.self.now.setup) in
-    let f = c.in-ok-admit.ensures.same in
+    let f = c.in_ok-admit.ensures.same in
     let k = counts g.R.Rule g.P.Policy g.S.Check a.self.now.setup a.self.now.stations a.self.now.steady in
-    let (one, inside) = read_place d a.intake.now a.self.now.stations a.pool.now a.books.now a.i a.k f c.in-ok-stands.ensures c.record-at.result.now.booked (ap (λ (s : Station). s.booked) c.record-at.ensures) k c.if-not-is-booked.ensures in
+    let (one, inside) = read_place d a.intake.now a.self.now.stations a.pool.now a.books.now a.i a.k f c.in_ok-stands.ensures c.record_at.result.now.booked (ap (λ (s : Station). s.booked) c.record_at.ensures) k c.if-not-is_booked.ensures in
     inside
 
 pub returns : goal.returns
 returns g c =
     let a = c.args in
     let d = (terms g.R.Rule g.P.Policy g.S.Check a.self.now.setup) in
-    let f = c.in-ok-admit.ensures.same in
-    read_booked d a.intake.now a.self.now.stations a.pool.now a.books.now a.i a.k f c.in-ok-stands.ensures _ (ap (λ (s : Station). s.booked) c.record-at.ensures) c.if-not-is-booked.ensures
+    let f = c.in_ok-admit.ensures.same in
+    read_booked d a.intake.now a.self.now.stations a.pool.now a.books.now a.i a.k f c.in_ok-stands.ensures _ (ap (λ (s : Station). s.booked) c.record_at.ensures) c.if-not-is_booked.ensures

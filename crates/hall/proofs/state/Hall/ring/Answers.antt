@@ -8,21 +8,21 @@ use Rattle.hall.specs.Join.{terms}
 use Rattle.hall.proofs.Whole.{admits, not_admitted, steady_after, any_default, counts, intake_long, short, ring_refused, ring_moving, ring_seat, ring_done}
 use Rattle.hall.proofs.state.Hall.ring.Goals as goal
 
-pub returns-in-err-admit : goal.returns-in-err-admit
-returns-in-err-admit g c =
+pub returns-in_err-admit : goal.returns-in_err-admit
+returns-in_err-admit g c =
     let a = c.args in
     let d = (terms g.R.Rule g.P.Policy g.S.Check a.self.now.setup) in
-    let e = not_admitted d a.intake.now (ringing a.i) (world a.self.now.stations a.pool.now a.books.now) c.in-err-admit.field-0.0
-    (c.in-err-admit.ensures.same ∙ admits d a.intake.now a.self.now.stations a.pool.now a.books.now) in
+    let e = not_admitted d a.intake.now (ringing a.i) (world a.self.now.stations a.pool.now a.books.now) c.in_err-admit.field-0.0
+    (c.in_err-admit.ensures.same ∙ admits d a.intake.now a.self.now.stations a.pool.now a.books.now) in
     record { setup = refl; call = search rules }
 
-pub returns-in-err-ring-ready : goal.returns-in-err-ring-ready
-returns-in-err-ring-ready g c =
+pub returns-in_err-ring_ready : goal.returns-in_err-ring_ready
+returns-in_err-ring_ready g c =
     let a = c.args in
     let d = (terms g.R.Rule g.P.Policy g.S.Check a.self.now.setup) in
     let k = (counts g.R.Rule g.P.Policy g.S.Check a.self.now.setup a.self.now.stations a.self.now.steady) in
-    let f = c.in-ok-admit.ensures.same in
-    let e = ring_refused d a.intake.now a.self.now.stations a.pool.now a.books.now k f a.i (get_or a.self.now.stations a.i no_station) refl c.in-err-ring-ready.field-0.0 c.in-err-ring-ready.ensures in
+    let f = c.in_ok-admit.ensures.same in
+    let e = ring_refused d a.intake.now a.self.now.stations a.pool.now a.books.now k f a.i (get_or a.self.now.stations a.i no_station) refl c.in_err-ring_ready.field-0.0 c.in_err-ring_ready.ensures in
     record { setup = refl; call = search rules }
 
 pub bounds-self-i : goal.bounds-self-i
@@ -30,45 +30,45 @@ bounds-self-i g c =
     let a = c.args in
     let d = (terms g.R.Rule g.P.Policy g.S.Check a.self.now.setup) in
     let k = (counts g.R.Rule g.P.Policy g.S.Check a.self.now.setup a.self.now.stations a.self.now.steady) in
-    let f = c.in-ok-admit.ensures.same in
-    let near = (ring_moving d a.intake.now a.self.now.stations a.pool.now a.books.now k f a.i (get_or a.self.now.stations a.i no_station) refl c.in-ok-ring-ready.ensures).working.placed in
+    let f = c.in_ok-admit.ensures.same in
+    let near = (ring_moving d a.intake.now a.self.now.stations a.pool.now a.books.now k f a.i (get_or a.self.now.stations a.i no_station) refl c.in_ok-ring_ready.ensures).working.placed in
     let there = near.there in
     let few = near.few in
     omega arith
 
-pub reselect-on-requires : goal.reselect-on-requires
-reselect-on-requires g c =
+pub reselect_on-requires : goal.reselect_on-requires
+reselect_on-requires g c =
     let a = c.args in
     let d = (terms g.R.Rule g.P.Policy g.S.Check a.self.now.setup) in
     let k = (counts g.R.Rule g.P.Policy g.S.Check a.self.now.setup a.self.now.stations a.self.now.steady) in
-    let f = c.in-ok-admit.ensures.same in
+    let f = c.in_ok-admit.ensures.same in
     let nil : Station = (record { booked = 0; work = no_batch; number = 0; proposed = false; votes = [] }) in
-    let near = (ring_moving d a.intake.now a.self.now.stations a.pool.now a.books.now k f a.i (get_or a.self.now.stations a.i no_station) refl c.in-ok-ring-ready.ensures).working.placed in
+    let near = (ring_moving d a.intake.now a.self.now.stations a.pool.now a.books.now k f a.i (get_or a.self.now.stations a.i no_station) refl c.in_ok-ring_ready.ensures).working.placed in
     let there = near.there in
     let few = near.few in
     let places = k.places in
     let inside : a.i < length a.self.now.stations = omega arith in
     let is = any_default a.self.now.stations a.i nil no_station inside in
     record {
-      moving = ring_moving d a.intake.now a.self.now.stations a.pool.now a.books.now k f a.i (get_or a.self.now.stations a.i nil) is c.in-ok-ring-ready.ensures;
-      shown = λ off. absurd (both_ways _ off (ring_seat d a.intake.now a.self.now.stations a.pool.now a.books.now k f a.i (get_or a.self.now.stations a.i nil) is c.in-ok-ring-ready.ensures));
+      moving = ring_moving d a.intake.now a.self.now.stations a.pool.now a.books.now k f a.i (get_or a.self.now.stations a.i nil) is c.in_ok-ring_ready.ensures;
+      shown = λ off. absurd (both_ways _ off (ring_seat d a.intake.now a.self.now.stations a.pool.now a.books.now k f a.i (get_or a.self.now.stations a.i nil) is c.in_ok-ring_ready.ensures));
     }
 
-pub invariant-of-self-2 : goal.invariant-of-self-2
-invariant-of-self-2 g c =
+pub invariant_of-self-2 : goal.invariant_of-self-2
+invariant_of-self-2 g c =
     let a = c.args in
     let d = (terms g.R.Rule g.P.Policy g.S.Check a.self.now.setup) in
     let k = (counts g.R.Rule g.P.Policy g.S.Check a.self.now.setup a.self.now.stations a.self.now.steady) in
-    let f = c.in-ok-admit.ensures.same in
+    let f = c.in_ok-admit.ensures.same in
     let nil : Station = (record { booked = 0; work = no_batch; number = 0; proposed = false; votes = [] }) in
-    let near = (ring_moving d a.intake.now a.self.now.stations a.pool.now a.books.now k f a.i (get_or a.self.now.stations a.i no_station) refl c.in-ok-ring-ready.ensures).working.placed in
+    let near = (ring_moving d a.intake.now a.self.now.stations a.pool.now a.books.now k f a.i (get_or a.self.now.stations a.i no_station) refl c.in_ok-ring_ready.ensures).working.placed in
     let there = near.there in
     let few = near.few in
     let places = k.places in
     let inside : a.i < length a.self.now.stations = omega arith in
     let is = any_default a.self.now.stations a.i nil no_station inside in (
       steady_after d few refl a.intake.now (ringing a.i) (world a.self.now.stations a.pool.now a.books.now) _
-          (ring_done d a.intake.now a.self.now.stations a.pool.now a.books.now k f a.i (get_or a.self.now.stations a.i nil) is c.in-ok-ring-ready.ensures _ _ _ _ c.reselect_on.ensures) a.self.now.steady,
+          (ring_done d a.intake.now a.self.now.stations a.pool.now a.books.now k f a.i (get_or a.self.now.stations a.i nil) is c.in_ok-ring_ready.ensures _ _ _ _ c.reselect_on.ensures) a.self.now.steady,
       tt,
     )
 
@@ -77,9 +77,9 @@ returns g c =
     let a = c.args in
     let d = (terms g.R.Rule g.P.Policy g.S.Check a.self.now.setup) in
     let k = (counts g.R.Rule g.P.Policy g.S.Check a.self.now.setup a.self.now.stations a.self.now.steady) in
-    let f = c.in-ok-admit.ensures.same in
+    let f = c.in_ok-admit.ensures.same in
     let nil : Station = (record { booked = 0; work = no_batch; number = 0; proposed = false; votes = [] }) in
-    let near = (ring_moving d a.intake.now a.self.now.stations a.pool.now a.books.now k f a.i (get_or a.self.now.stations a.i no_station) refl c.in-ok-ring-ready.ensures).working.placed in
+    let near = (ring_moving d a.intake.now a.self.now.stations a.pool.now a.books.now k f a.i (get_or a.self.now.stations a.i no_station) refl c.in_ok-ring_ready.ensures).working.placed in
     let there = near.there in
     let few = near.few in
     let places = k.places in
@@ -87,5 +87,5 @@ returns g c =
     let is = any_default a.self.now.stations a.i nil no_station inside in
     record {
       setup = refl;
-      call = ring_done d a.intake.now a.self.now.stations a.pool.now a.books.now k f a.i (get_or a.self.now.stations a.i nil) is c.in-ok-ring-ready.ensures _ _ _ _ c.reselect_on.ensures;
+      call = ring_done d a.intake.now a.self.now.stations a.pool.now a.books.now k f a.i (get_or a.self.now.stations a.i nil) is c.in_ok-ring_ready.ensures _ _ _ _ c.reselect_on.ensures;
     }
