@@ -23,30 +23,30 @@ exit n t batches bs r x e h d =
 
 pub returns-in_err-head : goal.returns-in_err-head
 returns-in_err-head c =
-    let p = err_from_is_err_and c.from-residual.result c.from-residual.ensures.1 in
-    exit c.args.n c.args.t c.args.batches c.args.bytes.now c.from-residual.result c.in_err-head.field-0.0 (p.1 ∙ ap Err p.2) (bytes_from c.args.bytes.now (λ i. (c.type_inv.bytes i).fits))
+    let p = err_from_is_err_and c.from_residual.result c.from_residual.ensures.1 in
+    exit c.args.n c.args.t c.args.batches c.args.bytes.now c.from_residual.result c.in_err-head.field-0.0 (p.1 ∙ ap Err p.2) (bytes_from c.args.bytes.now (λ i. (c.type_inv.bytes i).fits))
     (decode_head c.args.n c.args.t c.args.batches c.args.bytes.now
     c.in_err-head.field-0.0 c.in_err-head.ensures.is)
 
 pub returns-in_err-check_counts : goal.returns-in_err-check_counts
 returns-in_err-check_counts c =
-    let p = err_from_is_err_and c.from-residual-in_err-check_counts.result c.from-residual-in_err-check_counts.ensures.1 in
-    exit c.args.n c.args.t c.args.batches c.args.bytes.now c.from-residual-in_err-check_counts.result c.in_err-check_counts.field-0.0 (p.1 ∙ ap Err p.2) (bytes_from c.args.bytes.now (λ i. (c.type_inv.bytes i).fits))
+    let p = err_from_is_err_and c.from_residual-in_err-check_counts.result c.from_residual-in_err-check_counts.ensures.1 in
+    exit c.args.n c.args.t c.args.batches c.args.bytes.now c.from_residual-in_err-check_counts.result c.in_err-check_counts.field-0.0 (p.1 ∙ ap Err p.2) (bytes_from c.args.bytes.now (λ i. (c.type_inv.bytes i).fits))
     (decode_counts c.args.n c.args.t c.args.batches c.args.bytes.now c.in_ok-head.head c.in_ok-head.ensures.is
     c.in_err-check_counts.field-0.0 c.in_err-check_counts.ensures)
 
 pub returns-in_err-check_body : goal.returns-in_err-check_body
 returns-in_err-check_body c =
-    let p = err_from_is_err_and c.from-residual-in_err-check_body.result c.from-residual-in_err-check_body.ensures.1 in
-    exit c.args.n c.args.t c.args.batches c.args.bytes.now c.from-residual-in_err-check_body.result c.in_err-check_body.field-0.0 (p.1 ∙ ap Err p.2) (bytes_from c.args.bytes.now (λ i. (c.type_inv.bytes i).fits))
+    let p = err_from_is_err_and c.from_residual-in_err-check_body.result c.from_residual-in_err-check_body.ensures.1 in
+    exit c.args.n c.args.t c.args.batches c.args.bytes.now c.from_residual-in_err-check_body.result c.in_err-check_body.field-0.0 (p.1 ∙ ap Err p.2) (bytes_from c.args.bytes.now (λ i. (c.type_inv.bytes i).fits))
     (decode_body c.args.n c.args.t c.args.batches c.args.bytes.now c.in_ok-head.head c.in_ok-head.ensures.is
     c.in_ok-check_counts.field-0 c.in_ok-check_counts.ensures
     c.in_err-check_body.field-0.0 c.in_err-check_body.ensures.is)
 
 pub returns-in_err-check_pairs : goal.returns-in_err-check_pairs
 returns-in_err-check_pairs c =
-    let p = err_from_is_err_and c.from-residual-in_err-check_pairs.result c.from-residual-in_err-check_pairs.ensures.1 in
-    exit c.args.n c.args.t c.args.batches c.args.bytes.now c.from-residual-in_err-check_pairs.result c.in_err-check_pairs.field-0.0 (p.1 ∙ ap Err p.2) (bytes_from c.args.bytes.now (λ i. (c.type_inv.bytes i).fits))
+    let p = err_from_is_err_and c.from_residual-in_err-check_pairs.result c.from_residual-in_err-check_pairs.ensures.1 in
+    exit c.args.n c.args.t c.args.batches c.args.bytes.now c.from_residual-in_err-check_pairs.result c.in_err-check_pairs.field-0.0 (p.1 ∙ ap Err p.2) (bytes_from c.args.bytes.now (λ i. (c.type_inv.bytes i).fits))
     (decode_pairs c.args.n c.args.t c.args.batches c.args.bytes.now c.in_ok-head.head c.in_ok-head.ensures.is
     c.in_ok-check_counts.field-0 c.in_ok-check_counts.ensures c.in_ok-check_body.field-0 c.in_ok-check_body.ensures.is
     c.in_err-check_pairs.field-0.0 c.in_err-check_pairs.ensures)

@@ -17,19 +17,19 @@ overflow_add-bytes c =
 
 pub returns-in_err-digit_at : goal.returns-in_err-digit_at
 returns-in_err-digit_at c =
-    let p = err_from_is_err_and c.from-residual.result c.from-residual.ensures.1 in
+    let p = err_from_is_err_and c.from_residual.result c.from_residual.ensures.1 in
     let q = digit_err _ _ _ c.in_err-digit_at.ensures in
-    read_wrong c.args.line.now (2 * c.loop-k.k) c.from-residual.result
+    read_wrong c.args.line.now (2 * c.loop-k.k) c.from_residual.result
     c.requires
     (begun_first c.args.line.now c.loop-k.bytes c.loop-k.k c.loop-k.invariant (omega (arith, c.requires.even)) q.0)
     (p.1 ∙ ap Err (p.2 ∙ q.1))
 
 pub returns-in_err-bytes : goal.returns-in_err-bytes
 returns-in_err-bytes c =
-    let p = err_from_is_err_and c.from-residual-in_err-bytes.result c.from-residual-in_err-bytes.ensures.1 in
+    let p = err_from_is_err_and c.from_residual-in_err-bytes.result c.from_residual-in_err-bytes.ensures.1 in
     let o = digit_ok _ _ _ c.in_ok-digit_at.ensures in
     let q = digit_err _ _ _ c.in_err-bytes.ensures in
-    read_wrong c.args.line.now (2 * c.loop-k.k + 1) c.from-residual-in_err-bytes.result
+    read_wrong c.args.line.now (2 * c.loop-k.k + 1) c.from_residual-in_err-bytes.result
     c.requires
     (begun_second c.args.line.now c.loop-k.bytes c.loop-k.k c.loop-k.invariant (omega (arith, c.requires.even)) o.0 q.0)
     (p.1 ∙ ap Err (p.2 ∙ q.1))

@@ -11,7 +11,7 @@ use Rattle.hall.proofs.setup.Setup.deliver_ready.Goals as goal
 pub returns-in_err-stands : goal.returns-in_err-stands
 returns-in_err-stands g c =
     let a = c.args in
-    let p = err_from_is_err_and c.from-residual.result c.from-residual.ensures.1 in
+    let p = err_from_is_err_and c.from_residual.result c.from_residual.ensures.1 in
     record {
       is =
           rw (p.1, p.2)
@@ -44,7 +44,7 @@ frame_ready-requires g c =
 pub returns-in_err-frame_ready : goal.returns-in_err-frame_ready
 returns-in_err-frame_ready g c =
     let a = c.args in
-    let p = err_from_is_err_and c.from-residual-in_err-frame_ready.result c.from-residual-in_err-frame_ready.ensures.1 in
+    let p = err_from_is_err_and c.from_residual-in_err-frame_ready.result c.from_residual-in_err-frame_ready.ensures.1 in
     record {
       is =
           rw (p.1, p.2)

@@ -9,7 +9,7 @@ use Rattle.hall.proofs.setup.Setup.ring_ready.Goals as goal
 pub returns-in_err-stands : goal.returns-in_err-stands
 returns-in_err-stands g c =
     let a = c.args in
-    let p = err_from_is_err_and c.from-residual.result c.from-residual.ensures.1 in
+    let p = err_from_is_err_and c.from_residual.result c.from_residual.ensures.1 in
     rw (p.1, p.2)
     (ring_refused (terms g.R.Rule g.P.Policy g.S.Check a.self.now) a.i (get_or a.stations.now a.i no_station) a.pool.now _ c.in_err-stands.ensures)
 

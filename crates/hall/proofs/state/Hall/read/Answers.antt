@@ -10,7 +10,7 @@ pub returns-in_err-admit : goal.returns-in_err-admit
 returns-in_err-admit g c =
     let a = c.args in
     let d = (terms g.R.Rule g.P.Policy g.S.Check a.self.now.setup) in
-    let p = err_from_is_err_and c.from-residual.result c.from-residual.ensures.1 in
+    let p = err_from_is_err_and c.from_residual.result c.from_residual.ensures.1 in
     rw (p.1, p.2) (read_unadmitted d a.intake.now a.self.now.stations a.pool.now a.books.now a.i a.k _ c.in_err-admit.ensures.same)
 
 pub returns-in_err-stands : goal.returns-in_err-stands
@@ -18,7 +18,7 @@ returns-in_err-stands g c =
     let a = c.args in
     let d = (terms g.R.Rule g.P.Policy g.S.Check a.self.now.setup) in
     let f = c.in_ok-admit.ensures.same in
-    let p = err_from_is_err_and c.from-residual-in_err-stands.result c.from-residual-in_err-stands.ensures.1 in
+    let p = err_from_is_err_and c.from_residual-in_err-stands.result c.from_residual-in_err-stands.ensures.1 in
     rw (p.1, p.2) (read_unknown d a.intake.now a.self.now.stations a.pool.now a.books.now a.i a.k f _ c.in_err-stands.ensures)
 
 pub returns-then-not-is_booked : goal.returns-then-not-is_booked

@@ -8,7 +8,7 @@ pub returns-in_err-admit : goal.returns-in_err-admit
 returns-in_err-admit g c =
     let a = c.args in
     let d = (terms g.R.Rule g.P.Policy g.S.Check a.self.now.setup) in
-    let p = err_from_is_err_and c.from-residual.result c.from-residual.ensures.1 in
+    let p = err_from_is_err_and c.from_residual.result c.from_residual.ensures.1 in
     rw (p.1, p.2) (write_unadmitted d a.intake.now a.self.now.stations a.pool.now a.books.now a.f a.buffer.now _ c.in_err-admit.ensures.same)
 
 pub returns-then-is_empty : goal.returns-then-is_empty
