@@ -20,14 +20,14 @@ loop-q-preserved c =
     let q = c.loop-q.q in
     let inside : q < length votes = omega arith in
     elim c.if-is_for.branch [
-      | then-is-for w ↦ (
+      | then-is_for w ↦ (
         omega arith,
         omega (arith, w.filled-is, c.min.ensures, c.if-filled-min.false),
         subst (λ n. Gathered e votes (q + 1) n c.if-is_for.each) (sym w.filled-is)
             (subst (Gathered e votes (q + 1) (c.loop-q.filled + 1)) (sym w.each-is)
             (gathered_more e votes q c.loop-q.filled c.loop-q.each _ c.in-Some.vote inside c.in-Some.is (sym c.is_for.ensures ∙ w.if-is_for.true) (omega arith) c.loop-q.invariant.2)),
       )
-      | else-is-for w ↦ (
+      | else-is_for w ↦ (
         omega arith,
         omega (arith, w.filled-is),
         subst (λ n. Gathered e votes (q + 1) n c.if-is_for.each) (sym w.filled-is)

@@ -74,11 +74,11 @@ invariant_of-self-2 g c =
     let few = near.few in
     let places = k.places in
     let inside : a.i < length a.self.now.stations = omega arith in
-    let is = any_default a.self.now.stations a.i nil no_station inside in (
-      steady_after d few refl a.intake.now (delivery a.i a.f) (world a.self.now.stations a.pool.now a.books.now) _
-          (deliver_done d a.intake.now a.self.now.stations a.pool.now a.books.now k f a.i (get_or a.self.now.stations a.i nil) is a.f c.in_ok-frame.ensures.says c.in_ok-frame.frame c.in_ok-frame.ensures.is _ _ _ _ c.deliver_on.ensures) a.self.now.steady,
-      tt,
-    )
+    let is = any_default a.self.now.stations a.i nil no_station inside in
+    record {
+      steady = steady_after d few refl a.intake.now (delivery a.i a.f) (world a.self.now.stations a.pool.now a.books.now) _
+          (deliver_done d a.intake.now a.self.now.stations a.pool.now a.books.now k f a.i (get_or a.self.now.stations a.i nil) is a.f c.in_ok-frame.ensures.says c.in_ok-frame.frame c.in_ok-frame.ensures.is _ _ _ _ c.deliver_on.ensures) a.self.now.steady;
+    }
 
 pub returns : goal.returns
 returns g c =

@@ -5,7 +5,7 @@ use Rattle.hall.proofs.Ranges.{all_idle}
 use Rattle.hall.proofs.state.Hall.make.Goals as goal
 
 pub invariant_of-result : goal.invariant_of-result
-invariant_of-result g c = (all_idle c.args.batches, tt)
+invariant_of-result g c = record { steady = all_idle c.args.batches }
 
 pub returns : goal.returns
 returns g c =

@@ -66,11 +66,11 @@ invariant_of-self-2 g c =
     let few = near.few in
     let places = k.places in
     let inside : a.i < length a.self.now.stations = omega arith in
-    let is = any_default a.self.now.stations a.i nil no_station inside in (
-      steady_after d few refl a.intake.now (ringing a.i) (world a.self.now.stations a.pool.now a.books.now) _
-          (ring_done d a.intake.now a.self.now.stations a.pool.now a.books.now k f a.i (get_or a.self.now.stations a.i nil) is c.in_ok-ring_ready.ensures _ _ _ _ c.reselect_on.ensures) a.self.now.steady,
-      tt,
-    )
+    let is = any_default a.self.now.stations a.i nil no_station inside in
+    record {
+      steady = steady_after d few refl a.intake.now (ringing a.i) (world a.self.now.stations a.pool.now a.books.now) _
+          (ring_done d a.intake.now a.self.now.stations a.pool.now a.books.now k f a.i (get_or a.self.now.stations a.i nil) is c.in_ok-ring_ready.ensures _ _ _ _ c.reselect_on.ensures) a.self.now.steady;
+    }
 
 pub returns : goal.returns
 returns g c =
