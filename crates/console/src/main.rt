@@ -1,4 +1,6 @@
 // Reads a script from standard input, a command a line, and answers each line.
+#![tactic(auto)]
+
 mod desk;
 mod floor;
 mod reply;

@@ -1,5 +1,5 @@
 -- Statements that bear a correct station's right tag though no step issued them.
-use Rattle.std.specs.Prelude.{ℕ, Bool, true, false, not, List, take, Some, None, Option, nat_eq, nat_le, slice_index}
+use Rattle.std.specs.Prelude.{ℕ, Bool, true, false, not, List, take, Some, Option, nat_eq, nat_le, slice_index}
 use Rattle.policies.specs.declared.table.Locked.{Locked}
 use Rattle.policies.specs.Sound.{is_faulty}
 use Rattle.policies.specs.Tables.{locked_plain}

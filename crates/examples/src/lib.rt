@@ -1,5 +1,7 @@
 // The worked examples of the rules, the policies, the tables and the hall, proved of their definitions and run as tests
 // of the code; and one hall at concrete types.
+#![tactic(auto)]
+
 ghost use Rattle.protocol.specs.Run.{Owes};
 ghost use Rattle.examples.specs.Table.{AllHold};
 ghost use Rattle.examples.specs.Site.{site_terms};

@@ -10,7 +10,7 @@ use Rattle.base.specs.Refusals.{fault_at}
 use Rattle.frames.specs.declared.frame.Pair.{Pair}
 use Rattle.frames.specs.declared.frame.Pairs.{Pairs}
 use Rattle.frames.specs.declared.decode.Head.{Head}
-use Rattle.frames.specs.Frames.{◌and◌, at, num8, all_zero, first_fault, rising_tests, pairs_from, pairs_of, kind_of, number_of, count_of, entry_of, tag_of}
+use Rattle.frames.specs.Frames.{at, num8, all_zero, first_fault, rising_tests, pairs_from, pairs_of, kind_of, number_of, count_of, entry_of, tag_of}
 use Rattle.frames.specs.Certificates.{malformed}
 use Rattle.frames.specs.Typed.{kind_number, kind_at, no_pair, pair_at, holding, frame_of, held_to, head_tests, count_tests, body_tests, head_of, decoded}
 use Rattle.frames.proofs.Frames.{rising_stops, rising_more, length-pairs_from}

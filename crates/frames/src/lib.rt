@@ -1,4 +1,6 @@
 // What stations send each other: lines, frames and the slots of a pool.
+#![tactic(auto)]
+
 pub mod bytes;
 pub mod decode;
 pub mod encode;

@@ -1,5 +1,5 @@
 -- The calls that a step makes, one after the other, come to the step's definition.
-use Rattle.std.proofs.Common.{◌≡◌, ℕ, ◌+◌, ◌*◌, ◌<◌, ◌≤◌, Bool, true, false, cond, not, ltb, leb, List, [], map, length, get_or, take, set, replicate, Some, None, Option, sym, refl, ap, ◌∙◌, subst, arith}
+use Rattle.std.proofs.Common.{◌≡◌, ℕ, ◌+◌, ◌*◌, ◌<◌, ◌≤◌, Bool, true, false, cond, ltb, leb, List, [], map, length, get_or, take, set, replicate, Some, None, Option, sym, refl, ap, ◌∙◌, subst, arith}
 use Rattle.std.proofs.lemmas.List.{get_or-set_same, length-take}
 use Rattle.std.proofs.lemmas.Bool.{leb-true, ltb-true}
 use Rattle.base.specs.declared.book.Batch.{Batch}
@@ -11,10 +11,9 @@ use Rattle.frames.specs.declared.frame.Pairs.{Pairs}
 use Rattle.frames.specs.declared.slot.Slot.{Slot}
 use Rattle.frames.specs.Bytes.{statement, entry_bytes, proposes, reselects}
 use Rattle.frames.specs.Slots.{no_slot}
-use Rattle.frames.specs.Typed.{plain, listed, holding}
+use Rattle.frames.specs.Typed.{plain, listed}
 use Rattle.frames.proofs.Basics.{and_true}
 use Rattle.rules.specs.Clerk.{worked}
-use Rattle.rules.specs.Lawful.{lawful}
 use Rattle.rules.specs.Plain.{checked_of}
 use Rattle.rules.proofs.Turns.{passes}
 use Rattle.evidence.specs.Votes.{lowest_of, quorum_of}
@@ -23,7 +22,7 @@ use Rattle.protocol.specs.declared.station.Vote.{Vote}
 use Rattle.protocol.specs.declared.station.Station.{Station}
 use Rattle.protocol.specs.Law.{Terms, Marks, works}
 use Rattle.protocol.specs.Steps.{no_entry, support}
-use Rattle.protocol.specs.Desk.{Desk, begun, has_proposed_in, holds_vote, finished, raised, own_vote, with_record, carry_of, sent, propose_on, decide_on, settle_on, join_on, announced, moved_on, reselect_on, differs_on, vote_on}
+use Rattle.protocol.specs.Desk.{Desk, begun, has_proposed_in, holds_vote, finished, own_vote, with_record, carry_of, sent, propose_on, decide_on, settle_on, join_on, announced, moved_on, reselect_on, differs_on, vote_on}
 use Rattle.protocol.proofs.Fields.{held_pairs}
 use Rattle.protocol.proofs.Steady.{Steady, stored_steady}
 use Rattle.protocol.specs.Ready.{vote_in, pairs_in, shown_by, marked_taken, taken_on, open_on, deliver_on}

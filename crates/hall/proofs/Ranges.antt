@@ -1,12 +1,10 @@
 -- What the tests of every call show, and the records of a new hall.
-use Rattle.std.proofs.Common.{◌≡◌, ℕ, suc, ◌+◌, ◌*◌, ◌^◌, ◌<◌, ◌≤◌, Bool, true, false, eqb, leb, ◌⊎◌, List, length, get_or, replicate, sym, refl, ap, ◌∙◌, subst, inl, inr, mul-le-mul_right, suc-mul, mul-le-mul, arith}
+use Rattle.std.proofs.Common.{◌≡◌, ℕ, suc, ◌+◌, ◌*◌, ◌<◌, ◌≤◌, Bool, true, false, eqb, leb, ◌⊎◌, List, length, get_or, replicate, sym, refl, subst, inl, inr, mul-le-mul_right, suc-mul, mul-le-mul, arith}
 use lib.ListN.{get_or-replicate}
-use Rattle.std.proofs.lemmas.List.{get_or_past, length-replicate}
+use Rattle.std.proofs.lemmas.List.{get_or_past}
 use Rattle.std.proofs.lemmas.Bool.{cases_lt, leb-true, eqb-true}
 use Rattle.base.specs.declared.book.Batch.{Batch}
 use Rattle.frames.proofs.Basics.{and_true}
-use Rattle.frames.specs.Frames.{◌and◌}
-use Rattle.protocol.specs.declared.station.Station.{Station}
 use Rattle.protocol.specs.Law.{Terms}
 use Rattle.protocol.specs.Steps.{World, in_range, fitting, no_station}
 use Rattle.hall.specs.Steady.{Steady, SteadyStation}

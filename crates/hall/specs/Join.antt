@@ -1,5 +1,5 @@
 -- The terms of a hall: what its table, rule, policy and seal mean.
-use Rattle.std.specs.Prelude.{ℕ, Bool, slice_index}
+use Rattle.std.specs.Prelude.{ℕ, slice_index}
 use Rattle.rules.specs.Lawful.{lawful}
 use Rattle.rules.specs.declared.rule.Rule as Rule
 use Rattle.policies.specs.Sound.{is_faulty}

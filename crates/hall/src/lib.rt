@@ -1,4 +1,6 @@
 // Who agrees: the hall of stations and its calls.
+#![tactic(auto)]
+
 mod act;
 mod admit;
 mod ready;

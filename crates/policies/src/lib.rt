@@ -1,4 +1,6 @@
 // Who works a batch out: the table of stations, and the policies that seat committees of them.
+#![tactic(auto)]
+
 pub mod any;
 pub mod full;
 pub mod policy;

@@ -13,8 +13,7 @@ use Rattle.protocol.specs.declared.station.Vote.{Vote}
 use Rattle.protocol.specs.declared.station.Station.{Station}
 use Rattle.protocol.specs.Law.{Terms, Correct, clerk, Rising, Certifies, works}
 use Rattle.protocol.specs.Steps.{World, no_batch, no_entry, no_station, station_at, at_work, last_carry, propose, decide, issue, with_station, next_number, store, held}
-use Rattle.protocol.specs.Run.{size}
-use Rattle.frames.proofs.Slots.{Issued, Grows, grows_refl, grows_trans, filled}
+use Rattle.frames.proofs.Slots.{Issued, Grows, grows_refl, grows_trans}
 use Rattle.protocol.proofs.Usable.{Usable}
 use Rattle.protocol.proofs.Framed.{Within, sealed_frame, reads_proposal}
 use Rattle.protocol.proofs.Clerk.{clerk_next, clerk_short, carry_at}

@@ -11,7 +11,7 @@ use Rattle.frames.specs.Slots.{frame_at}
 use Rattle.frames.specs.Frames.{pair_states}
 use Rattle.protocol.specs.declared.station.Station.{Station}
 use Rattle.protocol.specs.Law.{Terms, clerk, Certifies, Event, History, Once, BookedCertified, OneBook, TrueCertificates}
-use Rattle.protocol.specs.Steps.{World, no_batch, no_entry, no_station, station_at, at_work, pair_sealed, shows}
+use Rattle.protocol.specs.Steps.{World, no_batch, no_entry, no_station, station_at, at_work, pair_sealed}
 use Rattle.frames.proofs.Slots.{Issued, shown, frame_empty, filled}
 use Rattle.frames.proofs.Frames.{states_proposal}
 use Rattle.frames.proofs.Basics.{all_both, never}

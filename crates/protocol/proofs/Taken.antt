@@ -16,7 +16,6 @@ use Rattle.protocol.specs.declared.station.Vote.{Vote}
 use Rattle.protocol.specs.declared.station.Station.{Station}
 use Rattle.protocol.specs.Law.{Terms, Correct, clerk}
 use Rattle.protocol.specs.Steps.{World, no_batch, no_entry, no_station, station_at, at_work, sender_sealed, pair_sealed, malformed, propose, decide, issue, with_station, next_number, announce, take_up, mark_taken, own_entry, join, forged, forgery, differs, same_entry, shows, pair_left, support}
-use Rattle.protocol.specs.Run.{size}
 use Rattle.frames.proofs.Numbers.{Bytes}
 use Rattle.frames.proofs.Codec.{line_bytes, batch_within, sealed_tag, says_decision, says_paired, sender_small, pair_tag, says_proposal, says_plain, says-reselect}
 use Rattle.frames.proofs.Slots.{slot_at, Place, place_of, Issued, Grows, grows_refl, grows_trans, issued_later, grows_set, framed_slot, grows_taken, free_taken, shown, taken_slot, issued_true, filled}
@@ -24,7 +23,7 @@ use Rattle.frames.proofs.Basics.{and_true, all_both, cond_cases, never}
 use Rattle.frames.proofs.Frames.{states_proposal, states_reselect}
 use Rattle.frames.proofs.Formed.{first_pair_all}
 use Rattle.protocol.proofs.Usable.{Usable}
-use Rattle.protocol.proofs.Framed.{Within, sealed_frame}
+use Rattle.protocol.proofs.Framed.{Within}
 use Rattle.protocol.proofs.Clerk.{rising-take, take_vote, backers_each, backers_rise, same_entry_refl}
 use Rattle.protocol.proofs.Safe.{Ghost, Own, Known, Sealed, PoolSafe, Voted, current, StationSafe, Safe, known_grows, pool_safe_set, entered_within, add_plain, add_paired, issued_proposal, issued-reselect}
 use Rattle.protocol.proofs.Basics.{no_votes}

@@ -1,4 +1,6 @@
 // What a batch gives: checked batches, the interface of a rule, two rules, and the lone clerk.
+#![tactic(auto)]
+
 pub mod any;
 pub mod batch;
 pub mod check;

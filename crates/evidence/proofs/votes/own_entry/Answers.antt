@@ -1,4 +1,4 @@
-use Rattle.std.proofs.Common.{◌≡◌, length, Some, None, Option, sym, ap}
+use Rattle.std.proofs.Common.{length, Some, None, Option, sym, ap}
 use Rattle.std.proofs.lemmas.List.{get_or_past}
 use Rattle.std.proofs.lemmas.Bool.{ltb-false}
 use Rattle.base.specs.declared.book.Entry.{Entry}

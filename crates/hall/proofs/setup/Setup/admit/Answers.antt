@@ -1,5 +1,5 @@
 use Rattle.std.proofs.Common.{sym, arith, rules}
-use Rattle.protocol.specs.Steps.{in_range, fitting}
+use Rattle.protocol.specs.Steps.{fitting}
 use Rattle.hall.specs.Join.{terms}
 use Rattle.hall.proofs.Lawful.{sound_table}
 use Rattle.hall.proofs.Ranges.{few_batches, entries_fit}

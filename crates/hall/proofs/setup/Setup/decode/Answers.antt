@@ -1,5 +1,4 @@
-use Rattle.std.proofs.Common.{◌≡◌, Ok, sym, ap, ◌∙◌}
-use Rattle.frames.specs.declared.frame.Frame.{Frame}
+use Rattle.std.proofs.Common.{ap, ◌∙◌}
 use Rattle.frames.specs.Typed.{decoded}
 use Rattle.hall.proofs.setup.Setup.decode.Goals as goal
 

@@ -1,6 +1,5 @@
-use Rattle.std.proofs.Common.{◌≡◌, get_or, sym, ◌∙◌, subst, rules}
+use Rattle.std.proofs.Common.{get_or, sym, ◌∙◌, subst, rules}
 use Rattle.std.proofs.lemmas.Result.{err_from_is_err_and}
-use Rattle.frames.specs.Slots.{frame_at}
 use Rattle.protocol.specs.Steps.{no_station}
 use Rattle.protocol.specs.Ready.{deliver_ready}
 use Rattle.hall.specs.Join.{terms}

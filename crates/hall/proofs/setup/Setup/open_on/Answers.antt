@@ -1,7 +1,6 @@
-use Rattle.std.proofs.Common.{◌≡◌, true, false, sym, ap, ◌∙◌}
+use Rattle.std.proofs.Common.{◌≡◌, false, ap, ◌∙◌}
 use Rattle.protocol.specs.declared.station.Station.{Station}
-use Rattle.protocol.specs.Law.{Marks}
-use Rattle.protocol.specs.Desk.{Desk, begun, propose_on}
+use Rattle.protocol.specs.Desk.{begun, propose_on}
 use Rattle.hall.specs.Called.{desk}
 use Rattle.hall.specs.Join.{terms}
 use Rattle.hall.proofs.Desks.{opens_idle, opens_member}

@@ -1,11 +1,8 @@
-use Rattle.std.proofs.Common.{◌≡◌, ◌<◌, false, [], length, get_or, sym, refl, ◌∙◌, arith, rules}
-use Rattle.std.proofs.lemmas.Bool.{both_ways}
-use Rattle.protocol.specs.declared.station.Station.{Station}
-use Rattle.protocol.specs.Law.{opening, delivery, ringing, injection}
-use Rattle.protocol.specs.Steps.{no_batch, no_station}
+use Rattle.std.proofs.Common.{refl, ◌∙◌, rules}
+use Rattle.protocol.specs.Law.{injection}
 use Rattle.hall.specs.Called.{world}
 use Rattle.hall.specs.Join.{terms}
-use Rattle.hall.proofs.Whole.{admits, not_admitted, steady_after, any_default, counts, intake_long, short, inject_refused, inject_done}
+use Rattle.hall.proofs.Whole.{admits, not_admitted, counts, inject_refused, inject_done}
 use Rattle.hall.proofs.state.Hall.inject.Goals as goal
 
 pub returns-in_err-admit : goal.returns-in_err-admit

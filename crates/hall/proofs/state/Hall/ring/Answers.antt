@@ -1,11 +1,11 @@
-use Rattle.std.proofs.Common.{◌≡◌, ◌<◌, false, [], length, get_or, sym, refl, ◌∙◌, arith, rules}
+use Rattle.std.proofs.Common.{◌<◌, false, [], length, get_or, refl, ◌∙◌, arith, rules}
 use Rattle.std.proofs.lemmas.Bool.{both_ways}
 use Rattle.protocol.specs.declared.station.Station.{Station}
-use Rattle.protocol.specs.Law.{opening, delivery, ringing, injection}
+use Rattle.protocol.specs.Law.{ringing}
 use Rattle.protocol.specs.Steps.{no_batch, no_station}
 use Rattle.hall.specs.Called.{world}
 use Rattle.hall.specs.Join.{terms}
-use Rattle.hall.proofs.Whole.{admits, not_admitted, steady_after, any_default, counts, intake_long, short, ring_refused, ring_moving, ring_seat, ring_done}
+use Rattle.hall.proofs.Whole.{admits, not_admitted, steady_after, any_default, counts, ring_refused, ring_moving, ring_seat, ring_done}
 use Rattle.hall.proofs.state.Hall.ring.Goals as goal
 
 pub returns-in_err-admit : goal.returns-in_err-admit

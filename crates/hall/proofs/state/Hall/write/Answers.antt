@@ -1,4 +1,4 @@
-use Rattle.std.proofs.Common.{◌≡◌, leb, length, sym, ap, ◌∙◌}
+use Rattle.std.proofs.Common.{leb, length, sym, ap, ◌∙◌}
 use Rattle.std.proofs.lemmas.Result.{err_from_is_err_and}
 use Rattle.hall.specs.Join.{terms}
 use Rattle.hall.proofs.Asked.{write_unadmitted, write_missing, write_done, some_bytes, no_bytes}
