@@ -1,6 +1,6 @@
 -- A test that is passed makes an example hold, and the whole table passes.
 use Rattle.std.proofs.Common.{◌≡◌, ℕ, true, false, eqb, List, [], ◌∷◌, refl, ap, ◌∙◌}
-use Rattle.std.specs.List.{AllByRecursion as All}
+use Rattle.std.specs.List.{AllByRecursion}
 use Rattle.std.proofs.lemmas.Bool.{and_parts, eqb-true, both_ways}
 use Rattle.rules.specs.declared.rule.Outcome.{Outcome}
 use Rattle.protocol.specs.Law.{works}
@@ -34,7 +34,7 @@ holds (plays d intake w calls l) e = list_same _ l e
 holds (builds n t k) e = eqb-true _ k e
 holds (locks n t k) e = eqb-true _ k e
 
-each : (l : List Example) → all_pass l ≡ true → All Holds l
+each : (l : List Example) → all_pass l ≡ true → AllByRecursion Holds l
 each [] e = tt
 each (x ∷ xs) e = let (head, tail) = and_parts (passes x) (all_pass xs) e in (holds x head, each xs tail)
 

@@ -1,6 +1,6 @@
 -- Worked examples as one table: what each row says, and a test that tells whether it holds.
 use Rattle.std.specs.Prelude.{◌≡◌, ℕ, zero, suc, Bool, true, false, cond, ◌&&◌, List, [], ◌∷◌, ◌++◌, replicate, Ok, Err, Result, ◌==◌}
-use Rattle.std.specs.List.{AllByRecursion as All}
+use Rattle.std.specs.List.{AllByRecursion}
 use Rattle.base.specs.declared.book.Batch.{Batch}
 use Rattle.base.specs.declared.fault.Fault.{Fault}
 use Rattle.base.specs.Refusals.{number_of}
@@ -141,4 +141,4 @@ examples =
 
 -- every example of the table holds
 abbrev pub AllHold : Type 0
-AllHold = All Holds examples
+AllHold = AllByRecursion Holds examples

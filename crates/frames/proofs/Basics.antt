@@ -1,6 +1,6 @@
 -- Tests and lists: small facts that several files share.
 use Rattle.std.proofs.Common.{◌≡◌, ℕ, Bool, true, false, cond, ◌⊎◌, List, [], ◌∷◌, Some, None, Option, refl, inl, inr, arith}
-use Rattle.std.specs.List.{AllByRecursion as All}
+use Rattle.std.specs.List.{AllByRecursion}
 use Rattle.std.proofs.lemmas.Bool.{both_ways}
 use Rattle.frames.specs.Frames.{◌and◌, ◌or◌}
 
@@ -39,6 +39,6 @@ passed false o place e = let z : ◌≡◌ {A = ℕ} 0 1 = cc in absurd (omega a
 
 -- lists
 
-pub all_both : {X : Type 0} (P Q R : X → Type 0) → ((x : X) → P x → Q x → R x) → (xs : List X) → All P xs → All Q xs → All R xs
+pub all_both : {X : Type 0} (P Q R : X → Type 0) → ((x : X) → P x → Q x → R x) → (xs : List X) → AllByRecursion P xs → AllByRecursion Q xs → AllByRecursion R xs
 all_both P Q R f [] e g = tt
 all_both P Q R f (x ∷ xs) e g = (f x e.0 g.0, all_both P Q R f xs e.1 g.1)

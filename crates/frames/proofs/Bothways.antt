@@ -1,6 +1,6 @@
 -- Decoding what was encoded, encoding what was decoded, and certificates.
 use Rattle.std.proofs.Common.{◌≡◌, ℕ, zero, suc, ◌+◌, ◌-◌, ◌*◌, ◌^◌, ◌<◌, ◌≤◌, min, cond, eqb, List, [], ◌∷◌, ◌++◌, map, length, take, replicate, None, Ok, sym, refl, ap, ◌∙◌, subst, ap₂, ⊎_elim, suc-add, zero-add, arith}
-use Rattle.std.specs.List.{AllByRecursion as All}
+use Rattle.std.specs.List.{AllByRecursion}
 use Rattle.std.proofs.lemmas.Bool.{eq-eqb, eqb-true, ne_eqb, cases_eq}
 use Rattle.std.proofs.ByRecursion.{All-weaker, All-map}
 use Rattle.std.proofs.lemmas.List.{length-map, length-take, nil_from_length, take_all, take_at}
@@ -50,7 +50,7 @@ pub record Sound (f : Frame) : Type 0 where
   pub front : HeadFits f
   pub seal : f.tag < 2 ^ 64
   pub size : length (listed f.pairs) ≡ min f.pairs.count 8
-  pub tags : All (λ (p : Pair). p.tag < 2 ^ 64) (listed f.pairs)
+  pub tags : AllByRecursion (λ (p : Pair). p.tag < 2 ^ 64) (listed f.pairs)
 
 -- a frame for one number of batches is one for a higher one
 wider : (n t few batches : ℕ) (bs : List ℕ) → few ≤ batches → Formed n t few bs → Formed n t batches bs
@@ -67,7 +67,7 @@ wider n t few batches bs h f = record {
   rises = f.rises;
 }
 
-module _ (n t sender batch number count : ℕ) (e : Entry) (g : ℕ) (ps : List (ℕ × ℕ)) (small : batch < 2 ^ 16) (sends : sender < n) (some : 1 ≤ batch) (counts : length ps ≡ count) (rises : Rising n 0 ps) (tags : All (λ (p : ℕ × ℕ). p.1 < 2 ^ 64) ps) where
+module _ (n t sender batch number count : ℕ) (e : Entry) (g : ℕ) (ps : List (ℕ × ℕ)) (small : batch < 2 ^ 16) (sends : sender < n) (some : 1 ≤ batch) (counts : length ps ≡ count) (rises : Rising n 0 ps) (tags : AllByRecursion (λ (p : ℕ × ℕ). p.1 < 2 ^ 64) ps) where
   written_formed : (k : Kind) → Fields t k number count e → Formed n t batch (frame (statement (kind_number k) sender batch number count (entry_bytes e)) g ps)
   written_formed Propose (z, c) =
       let nil : ps ≡ [] = nil_from_length ps (counts ∙ c) in
@@ -84,7 +84,7 @@ module _ (n t batches : ℕ) (f : Frame) (s : Sound f) (w : WellFormed n t batch
   abbrev ps : List (ℕ × ℕ)
   ps = map plain (listed f.pairs)
 
-  few_tags : All (λ (p : ℕ × ℕ). p.1 < 2 ^ 64) ps
+  few_tags : AllByRecursion (λ (p : ℕ × ℕ). p.1 < 2 ^ 64) ps
   few_tags = All-map (λ (p : ℕ × ℕ). p.1 < 2 ^ 64) plain (listed f.pairs) s.tags
 
   counts : length ps ≡ f.pairs.count
@@ -132,13 +132,13 @@ module _ (n t batches : ℕ) (f : Frame) (s : Sound f) (w : WellFormed n t batch
 
 -- for the contract of encode
 pub encode_back : (f : Frame) (ps : List Pair) (k : ℕ) → ps ≡ listed f.pairs → length ps ≡ min f.pairs.count 8 → length ps ≤ k
-    → HeadFits f → f.tag < 2 ^ 64 → All (λ (p : Pair). p.tag < 2 ^ 64) (take k ps) → ReadsBack f
+    → HeadFits f → f.tag < 2 ^ 64 → AllByRecursion (λ (p : Pair). p.tag < 2 ^ 64) (take k ps) → ReadsBack f
 encode_back f ps k is size end front seal tags n t batches w =
     let s : Sound f = record {
       front = front;
       seal = seal;
       size = ap length (sym is) ∙ size;
-      tags = subst (All (λ (p : Pair). p.tag < 2 ^ 64)) (take_all k ps end ∙ is) tags;
+      tags = subst (AllByRecursion (λ (p : Pair). p.tag < 2 ^ 64)) (take_all k ps end ∙ is) tags;
     } in
     decoded-encoded n t batches f s w
 

@@ -1,6 +1,6 @@
 -- A frame passes the checks of a decision exactly when it is a certificate by its own fields.
 use Rattle.std.proofs.Common.{◌≡◌, ℕ, ◌+◌, ◌*◌, ◌^◌, ◌<◌, true, List, length, take, None, sym, refl, ap, ◌∙◌, arith}
-use Rattle.std.specs.List.{AllByRecursion as All}
+use Rattle.std.specs.List.{AllByRecursion}
 use Rattle.std.proofs.lemmas.Bool.{eqb-true, eq-eqb}
 use Rattle.std.proofs.ByRecursion.{All-weaker}
 use Rattle.frames.specs.Bytes.{statement, entry_bytes}
@@ -13,7 +13,7 @@ use Rattle.frames.proofs.Frames.{frame, take_frame, tag_frame, length_frame, len
 module _ (n t batches : ℕ) (tag : ℕ → List ℕ → ℕ) where
   -- a decision that passes the checks is a certificate
   pub certifies : (bs : List ℕ) → Bytes bs → malformed n t batches bs ≡ None → kind_of bs ≡ 2 → sender_sealed tag bs ≡ true
-      → All (λ p. pair_sealed tag bs p ≡ true) (pairs_of bs)
+      → AllByRecursion (λ p. pair_sealed tag bs p ≡ true) (pairs_of bs)
       → Certificate n t batches tag bs
   certifies bs h none k seal seals =
       let f = none_formed n t batches bs none in

@@ -1,7 +1,7 @@
 -- What the frames that stations issue read back as, and what a well-formed frame states: all that an
 -- argument over whole runs needs to know of bytes.
 use Rattle.std.proofs.Common.{◌≡◌, ℕ, ◌+◌, ◌^◌, ◌<◌, ◌≤◌, true, List, [], ◌∷◌, length, get_or, take, replicate, None, sym, refl, ap, ◌∙◌, subst, ap₂, arith}
-use Rattle.std.specs.List.{AllByRecursion as All}
+use Rattle.std.specs.List.{AllByRecursion}
 use Rattle.std.proofs.ByRecursion.{All-weaker}
 use Rattle.std.proofs.lemmas.Bool.{eqb-true, eq-eqb}
 use Rattle.base.specs.declared.book.Entry.{Entry}
@@ -130,7 +130,7 @@ module _ (n t batches : ℕ) (tag : ℕ → List ℕ → ℕ) where
         room.tags q (statement kind q b c m body) (omega (arith, room.few_stations)) (omega arith) (statement_bytes kind q b c m body k (omega (arith, room.few_stations)) m8 h)
 
     reads_of : (kind j b c m : ℕ) (body : List ℕ) (ps : List (ℕ × ℕ)) → length body ≡ 16 → kind < 256 → j < n → b < 2 ^ 16 → c < 2 ^ 16 → m ≤ 8 → length ps ≡ m
-        → All (λ p. p.1 < 2 ^ 64) ps → Rising n 0 ps → Bytes body → Formed n t batches (sealed_frame j (statement kind j b c m body) ps)
+        → AllByRecursion (λ p. p.1 < 2 ^ 64) ps → Rising n 0 ps → Bytes body → Formed n t batches (sealed_frame j (statement kind j b c m body) ps)
         → Reads (sealed_frame j (statement kind j b c m body) ps) kind j b c m ps (statement kind j b c m body)
     unfolding sealed_frame
     reads_of kind j b c m body ps full k256 jn b16 c16 m8 count tags rising bytes formed =
@@ -180,7 +180,7 @@ module _ (n t batches : ℕ) (tag : ℕ → List ℕ → ℕ) where
         → Reads bs 2 j b 0 (t + 1) ps (statement 2 j b 0 (t + 1) (entry_bytes e))
     unfolding sealed_frame
     reads_decision bs j b e ps ce =
-        let small : All (λ p. p.1 < 2 ^ 64) ps =
+        let small : AllByRecursion (λ p. p.1 < 2 ^ 64) ps =
         all_both _ _ _ (λ p x y. subst (λ (x : ℕ). x < 2 ^ 64) (sym x) (tag_small 1 p.0 b 0 0 (entry_bytes e) (omega arith) y (omega arith) refl (entry_bytes_bytes e))) ps ce.sealed (rising_below n 0 ps ce.rising) in
         subst (λ (x : List ℕ). Reads x 2 j b 0 (t + 1) ps (statement 2 j b 0 (t + 1) (entry_bytes e))) (sym ce.reads)
         (reads_of 2 j b 0 (t + 1) (entry_bytes e) ps refl (omega arith) ce.sends (omega (arith, ce.within.1, few)) (omega arith)

@@ -1,6 +1,6 @@
 -- A well-formed frame, field by field: what `malformed n t batches bs ≡ None` says, both ways.
 use Rattle.std.proofs.Common.{◌≡◌, ℕ, zero, suc, ◌+◌, ◌*◌, ◌<◌, ◌≤◌, Bool, true, cond, eqb, ltb, leb, List, [], ◌∷◌, length, take, drop, replicate, None, sym, refl, ap, ◌∙◌, ap₂, ⊎_elim, arith}
-use Rattle.std.specs.List.{AllByRecursion as All}
+use Rattle.std.specs.List.{AllByRecursion}
 use Rattle.std.proofs.lemmas.Bool.{leb-true, ltb-true, eqb-true, le-leb, lt-ltb, eq-eqb, ne_eqb, cases_eq, cond-true, cond-false}
 use Rattle.std.proofs.lemmas.List.{length-take-le, length-drop}
 use Rattle.std.proofs.lemmas.Bool.Decides.{nat_tests}
@@ -8,19 +8,19 @@ use Rattle.frames.specs.Frames.{◌and◌, at, kind_of, sender_of, batch_of, num
 use Rattle.frames.specs.Certificates.{Rising, malformed}
 use Rattle.frames.proofs.Basics.{both_true, passed, and_true}
 
-pub first_fault_none : (cs : List (Bool × ℕ)) → All (λ c. c.0 ≡ true) cs → first_fault cs ≡ None
+pub first_fault_none : (cs : List (Bool × ℕ)) → AllByRecursion (λ c. c.0 ≡ true) cs → first_fault cs ≡ None
 first_fault_none [] h = refl
 first_fault_none (c ∷ cs) h = rw h.0 (first_fault_none cs h.1)
 
-pub first_fault_all : (cs : List (Bool × ℕ)) → first_fault cs ≡ None → All (λ c. c.0 ≡ true) cs
+pub first_fault_all : (cs : List (Bool × ℕ)) → first_fault cs ≡ None → AllByRecursion (λ c. c.0 ≡ true) cs
 first_fault_all [] e = tt
 first_fault_all (c ∷ cs) e = let h = passed c.0 (first_fault cs) c.1 e in (h.0, first_fault_all cs h.1)
 
-pub first_pair_none : (good : ℕ × ℕ → Bool) (place : ℕ) (ps : List (ℕ × ℕ)) → All (λ p. good p ≡ true) ps → first_pair good place ps ≡ None
+pub first_pair_none : (good : ℕ × ℕ → Bool) (place : ℕ) (ps : List (ℕ × ℕ)) → AllByRecursion (λ p. good p ≡ true) ps → first_pair good place ps ≡ None
 first_pair_none good place [] h = refl
 first_pair_none good place (p ∷ ps) h = rw (h.0, first_pair) (first_pair_none good (place + 9) ps h.1)
 
-pub first_pair_all : (good : ℕ × ℕ → Bool) (place : ℕ) (ps : List (ℕ × ℕ)) → first_pair good place ps ≡ None → All (λ p. good p ≡ true) ps
+pub first_pair_all : (good : ℕ × ℕ → Bool) (place : ℕ) (ps : List (ℕ × ℕ)) → first_pair good place ps ≡ None → AllByRecursion (λ p. good p ≡ true) ps
 first_pair_all good place [] e = tt
 first_pair_all good place (p ∷ ps) e = let h = passed (good p) (first_pair good (place + 9) ps) place e in (h.0, first_pair_all good (place + 9) ps h.1)
 
@@ -53,11 +53,11 @@ between_ok a b c p q = grind (arith, nat_tests)
 pub between_says : (a b c : ℕ) → (leb a b and leb b c) ≡ true → (a ≤ b) × (b ≤ c)
 between_says a b c e = (grind (arith, nat_tests), grind (arith, nat_tests))
 
-rising_none : (n low place : ℕ) (ps : List (ℕ × ℕ)) → Rising n low ps → All (λ c. c.0 ≡ true) (rising_tests n low place ps)
+rising_none : (n low place : ℕ) (ps : List (ℕ × ℕ)) → Rising n low ps → AllByRecursion (λ c. c.0 ≡ true) (rising_tests n low place ps)
 rising_none n low place [] h = tt
 rising_none n low place (p ∷ ps) h = (both_true (ltb p.0 n) (leb low p.0) (lt-ltb _ _ h.1) (le-leb _ _ h.0), rising_none n (p.0 + 1) (place + 9) ps h.2)
 
-rising_all : (n low place : ℕ) (ps : List (ℕ × ℕ)) → All (λ c. c.0 ≡ true) (rising_tests n low place ps) → Rising n low ps
+rising_all : (n low place : ℕ) (ps : List (ℕ × ℕ)) → AllByRecursion (λ c. c.0 ≡ true) (rising_tests n low place ps) → Rising n low ps
 rising_all n low place [] h = tt
 rising_all n low place (p ∷ ps) h =
     let q = and_true (ltb p.0 n) (leb low p.0) h.0 in

@@ -1,6 +1,6 @@
 -- Frames: what is read from a frame that was written, and how a frame that is read was written.
 use Rattle.std.proofs.Common.{◌≡◌, ℕ, zero, suc, ◌+◌, ◌-◌, ◌*◌, ◌^◌, ◌<◌, ◌≤◌, true, false, ltb, leb, List, [], ◌∷◌, ◌++◌, length, get_or, take, drop, replicate, Some, sym, refl, ap, ◌∙◌, subst, ap₂, ⊎_elim, add-zero, arith}
-use Rattle.std.specs.List.{AllByRecursion as All}
+use Rattle.std.specs.List.{AllByRecursion}
 use Rattle.std.proofs.lemmas.Bool.{eq-eqb, cases_lt, ne_eqb}
 use Rattle.std.proofs.lemmas.Bool.Decides.{nat_tests}
 use Rattle.std.proofs.lemmas.List.{length-append, append_assoc, take_at, drop_at, drop-drop, drop_all, get_or-drop}
@@ -51,7 +51,7 @@ rising_more n low place m bs h p q =
     let e : (ltb (at bs place) n and leb low (at bs place)) ≡ true = grind (arith, nat_tests) in
     rising-turn n low place m bs h ∙ rw e refl
 
-pub pairs_from_bytes : (bs : List ℕ) (i : ℕ) (ps : List (ℕ × ℕ)) → All (λ p. p.1 < 2 ^ 64) ps → drop i bs ≡ pair_bytes ps
+pub pairs_from_bytes : (bs : List ℕ) (i : ℕ) (ps : List (ℕ × ℕ)) → AllByRecursion (λ p. p.1 < 2 ^ 64) ps → drop i bs ≡ pair_bytes ps
     → pairs_from (length ps) i bs ≡ ps
 pairs_from_bytes bs i [] h e = refl
 pairs_from_bytes bs i (p ∷ ps) h e =
@@ -67,7 +67,7 @@ pair_bytes_from bs (suc m) i h l =
     let b = pair_bytes_from bs m (i + 9) h (omega arith) in
     ap₂ (λ x y. at bs i ∷ x ++ y) a b ∙ sym (drop-read 9 i bs (omega arith))
 
-pair_bytes_bytes : (ps : List (ℕ × ℕ)) → All (λ p. p.0 < 256) ps → Bytes (pair_bytes ps)
+pair_bytes_bytes : (ps : List (ℕ × ℕ)) → AllByRecursion (λ p. p.0 < 256) ps → Bytes (pair_bytes ps)
 pair_bytes_bytes [] h = tt
 pair_bytes_bytes (p ∷ ps) h = (h.0, All-append (λ x. x < 256) (be8 p.1) (pair_bytes ps) (be8_bytes p.1) (pair_bytes_bytes ps h.1))
 
@@ -88,10 +88,10 @@ module _ (s : List ℕ) (g : ℕ) (ps : List (ℕ × ℕ)) (full : length s ≡ 
   pub tag_frame : g < 2 ^ 64 → tag_of (frame s g ps) ≡ g
   tag_frame h = num8-at (frame s g ps) (pair_bytes ps) 24 g h drop_frame
 
-  pub pairs_frame : All (λ p. p.1 < 2 ^ 64) ps → pairs_from (length ps) 32 (frame s g ps) ≡ ps
+  pub pairs_frame : AllByRecursion (λ p. p.1 < 2 ^ 64) ps → pairs_from (length ps) 32 (frame s g ps) ≡ ps
   pairs_frame h = pairs_from_bytes (frame s g ps) 32 ps h (drop_on (frame s g ps) (be8 g ++ pair_bytes ps) 24 8 drop_frame)
 
-  pub bytes_frame : Bytes s → All (λ p. p.0 < 256) ps → Bytes (frame s g ps)
+  pub bytes_frame : Bytes s → AllByRecursion (λ p. p.0 < 256) ps → Bytes (frame s g ps)
   bytes_frame b h = All-append (λ x. x < 256) (s ++ be8 g) (pair_bytes ps) (All-append (λ x. x < 256) s (be8 g) b (be8_bytes g)) (pair_bytes_bytes ps h)
 
 -- what is read from it; its kind, sender and count are read by refl
@@ -102,7 +102,7 @@ module _ (kind sender batch c m : ℕ) (body : List ℕ) (g : ℕ) (ps : List (�
   pub number_frame : c < 2 ^ 16 → number_of (frame (statement kind sender batch c m body) g ps) ≡ c
   number_frame h = num2-be2 c [] h
 
-  pub pairs_of_frame : length body ≡ 16 → length ps ≡ m → All (λ p. p.1 < 2 ^ 64) ps
+  pub pairs_of_frame : length body ≡ 16 → length ps ≡ m → AllByRecursion (λ p. p.1 < 2 ^ 64) ps
       → pairs_of (frame (statement kind sender batch c m body) g ps) ≡ ps
   pairs_of_frame l q h =
       let s : List ℕ = statement kind sender batch c m body in
@@ -133,7 +133,7 @@ entry_bytes_bytes e =
     (All-append B (be4 e.grower) (be4 e.amount) (be4_bytes e.grower) (be4_bytes e.amount)) (be4_bytes e.carry))
     (be4_bytes e.figure)
 
-pub rising_below : (n low : ℕ) (ps : List (ℕ × ℕ)) → Rising n low ps → All (λ p. p.0 < n) ps
+pub rising_below : (n low : ℕ) (ps : List (ℕ × ℕ)) → Rising n low ps → AllByRecursion (λ p. p.0 < n) ps
 rising_below n low [] h = tt
 rising_below n low (p ∷ ps) h = (h.1, rising_below n (p.0 + 1) ps h.2)
 
@@ -156,7 +156,7 @@ module _ (n t batches : ℕ) (few : batches < 2 ^ 16) (sender batch : ℕ) (send
     rises = tt;
   }
 
-  pub decision_formed : (e : Entry) (ps : List (ℕ × ℕ)) → length ps ≡ t + 1 → Rising n 0 ps → All (λ p. p.1 < 2 ^ 64) ps
+  pub decision_formed : (e : Entry) (ps : List (ℕ × ℕ)) → length ps ≡ t + 1 → Rising n 0 ps → AllByRecursion (λ p. p.1 < 2 ^ 64) ps
       → Formed n t batches (frame (statement 2 sender batch 0 (t + 1) (entry_bytes e)) g ps)
   decision_formed e ps quorum rising tags =
       let s : List ℕ = statement 2 sender batch 0 (t + 1) (entry_bytes e) in
@@ -174,7 +174,7 @@ module _ (n t batches : ℕ) (few : batches < 2 ^ 16) (sender batch : ℕ) (send
         rises = subst (Rising n 0) (sym (pairs_of_frame 2 sender batch 0 (t + 1) (entry_bytes e) g ps refl quorum tags)) rising;
       }
 
-  pub reselect_formed : (c m : ℕ) (ps : List (ℕ × ℕ)) → (1 ≤ c) × (c ≤ 20000) → length ps ≡ m → m ≤ 1 → Rising n 0 ps → All (λ p. p.1 < 2 ^ 64) ps
+  pub reselect_formed : (c m : ℕ) (ps : List (ℕ × ℕ)) → (1 ≤ c) × (c ≤ 20000) → length ps ≡ m → m ≤ 1 → Rising n 0 ps → AllByRecursion (λ p. p.1 < 2 ^ 64) ps
       → Formed n t batches (frame (statement 3 sender batch c m (replicate 16 0)) g ps)
   reselect_formed c m ps fits count few rising tags =
       let s : List ℕ = statement 3 sender batch c m (replicate 16 0) in

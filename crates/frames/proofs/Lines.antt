@@ -1,6 +1,6 @@
 -- Lines of hexadecimal digits: what a line without fault is, and that bytes and lines go back and forth.
 use Rattle.std.proofs.Common.{◌≡◌, ℕ, ◌+◌, ◌*◌, ◌/◌, ◌%◌, ◌<◌, ◌≤◌, true, eqb, ltb, leb, List, [], ◌∷◌, ◌++◌, length, get_or, take, drop, set, Some, None, sym, refl, ap, ◌∙◌, ap₂, arith}
-use Rattle.std.specs.List.{AllByRecursion as All}
+use Rattle.std.specs.List.{AllByRecursion}
 use Rattle.std.proofs.lemmas.Bool.{ltb-true, lt-ltb, le-ltb}
 use Rattle.std.proofs.lemmas.Bool.Decides.{nat_tests}
 use Rattle.std.proofs.lemmas.List.{at_drop_more, drop_more, take_more_set, append_assoc}
@@ -29,7 +29,7 @@ length-hex (b ∷ bs) = omega (arith, length-hex bs)
 
 -- every character is a digit
 abbrev pub Digits : List ℕ → Type 0
-Digits = All (λ x. nibble x < 16)
+Digits = AllByRecursion (λ x. nibble x < 16)
 
 pub digits_hex : (bs : List ℕ) → Bytes bs → Digits (hex bs)
 digits_hex [] h = tt

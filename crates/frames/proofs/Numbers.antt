@@ -1,6 +1,6 @@
 -- Numbers as bytes and back: what is written is read, and what is read was written.
 use Rattle.std.proofs.Common.{◌≡◌, ℕ, zero, suc, ◌+◌, ◌*◌, ◌/◌, ◌%◌, ◌^◌, ◌<◌, ◌≤◌, List, [], ◌∷◌, ◌++◌, length, take, drop, sym, refl, ap, ◌∙◌, ap₂, add-zero, add_assoc, mod-lt, arith, lit<}
-use Rattle.std.specs.List.{AllByRecursion as All}
+use Rattle.std.specs.List.{AllByRecursion}
 use Rattle.std.proofs.lemmas.List.{get_or-drop, take-append-drop, drop-drop, drop_more}
 use Rattle.std.proofs.ByRecursion.{All-from_get_or}
 use Rattle.frames.specs.Bytes.{byte, be2, be4, be8}
@@ -8,7 +8,7 @@ use Rattle.frames.specs.Frames.{at, num2, num4, num8}
 
 -- every element is a byte
 abbrev pub Bytes : List ℕ → Type 0
-Bytes = All (λ x. x < 256)
+Bytes = AllByRecursion (λ x. x < 256)
 
 -- w elements from the place i on
 abbrev pub read : ℕ → ℕ → List ℕ → List ℕ

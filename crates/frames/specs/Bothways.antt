@@ -1,7 +1,7 @@
 -- Decoding and encoding, both ways: what a decoded frame has to do with its bytes, which frames are
 -- read back as they were written, and which decisions are certificates.
 use Rattle.std.specs.Prelude.{◌≡◌, ℕ, ◌+◌, ◌-◌, ◌^◌, ◌<◌, ◌≤◌, List, ◌++◌, map, take, replicate, Ok}
-use Rattle.std.specs.List.{AllByRecursion as All}
+use Rattle.std.specs.List.{AllByRecursion}
 use Rattle.base.specs.declared.book.Entry.{Entry}
 use Rattle.frames.specs.declared.frame.Kind.{Kind}
 use Rattle.frames.specs.declared.frame.Kind.TheVariants.{Propose, Decision, Reselect}
@@ -42,7 +42,7 @@ pub record Accepted (n t batches : ℕ) (tag : ℕ → List ℕ → ℕ) (bs : L
   pub decodes : decoded n t batches bs ≡ Ok frame
   pub decision : frame.kind ≡ Decision
   pub sender_right : frame.tag ≡ tag frame.sender (stated frame)
-  pub pairs_right : All (λ p. p.1 ≡ tag p.0 (pair_stated frame p.0)) (pairs_of bs)
+  pub pairs_right : AllByRecursion (λ p. p.1 ≡ tag p.0 (pair_stated frame p.0)) (pairs_of bs)
 
 -- what holds of some bytes, whatever they are
 pub record BothWays (n t batches : ℕ) (bs : List ℕ) : Type 0 where

@@ -1,7 +1,7 @@
 -- Frames that pass the checks, for n stations of which t may be faulty, a number of batches and the
 -- tag of each station on each statement; and what a certificate is, as an equation of its bytes.
 use Rattle.std.specs.Prelude.{◌≡◌, ℕ, ◌+◌, ◌^◌, ◌<◌, ◌≤◌, Bool, true, List, [], ◌∷◌, ◌++◌, length, take, None, Option, ◌==◌}
-use Rattle.std.specs.List.{AllByRecursion as All}
+use Rattle.std.specs.List.{AllByRecursion}
 use Rattle.base.specs.declared.book.Entry.{Entry}
 use Rattle.frames.specs.Bytes.{be8, statement, entry_bytes, proposes, pair_bytes}
 use Rattle.frames.specs.Frames.{kind_of, sender_of, batch_of, entry_of, tag_of, pairs_of, pair_states, first_fault, form_tests, first_pair}
@@ -36,7 +36,7 @@ module _ (n t batches : ℕ) (tag : ℕ → List ℕ → ℕ) where
     pub fits : Fits e
     pub quorum : length pairs ≡ t + 1
     pub rising : Rising n 0 pairs
-    pub sealed : All (λ p. p.1 ≡ tag p.0 (proposes p.0 b e)) pairs
+    pub sealed : AllByRecursion (λ p. p.1 ≡ tag p.0 (proposes p.0 b e)) pairs
     pub reads : let s : List ℕ = statement 2 sender b 0 (t + 1) (entry_bytes e) in
         frame ≡ s ++ be8 (tag sender s) ++ pair_bytes pairs
 

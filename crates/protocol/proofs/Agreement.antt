@@ -1,6 +1,6 @@
 -- The claim: a hall of lawful terms keeps the law over every list of calls.
 use Rattle.std.proofs.Common.{◌≡◌, ℕ, ◌+◌, ◌*◌, ◌^◌, ◌<◌, ◌≤◌, Bool, true, false, List, ◌∷◌, length, Err, sym, refl, ap, ◌∙◌, subst, subst₂, arith}
-use Rattle.std.specs.List.{AllByRecursion as All}
+use Rattle.std.specs.List.{AllByRecursion}
 use Rattle.std.proofs.lemmas.Bool.{eq-eqb, both_ways}
 use Rattle.base.specs.declared.book.Batch.{Batch}
 use Rattle.base.specs.declared.fault.Fault.{Fault}
@@ -85,7 +85,7 @@ module _ (d : Terms) (intake : List Batch) where
 
     -- a run in which every call is refused 6 or 7
     module _ (stops : (c : Call) → (x : Fault) × (whole_call d intake c start ≡ (start, Err x))) where
-      all_refused : (h : History) (w : World) → Run d intake start h w → (w ≡ start) × All Refused h
+      all_refused : (h : History) (w : World) → Run d intake start h w → (w ≡ start) × AllByRecursion Refused h
       all_refused h w fresh = (refl, tt)
       all_refused h w (called {h = h₀} {w = w₀} r c) =
           let y = all_refused h₀ w₀ r in

@@ -1,6 +1,6 @@
 -- The lone clerk's book, that t + 1 different stations have a correct one among them, and the backers of an entry.
 use Rattle.std.proofs.Common.{◌≡◌, ℕ, zero, suc, ◌+◌, ◌^◌, ◌<◌, ◌≤◌, Bool, true, false, eqb, List, [], ◌∷◌, length, get_or, take, Some, None, Option, refl, ap, ◌∙◌, subst, add-one, arith}
-use Rattle.std.specs.List.{AllByRecursion as All}
+use Rattle.std.specs.List.{AllByRecursion}
 use Rattle.std.proofs.lemmas.Bool.{eqb-true, eq-eqb, both_ways}
 use Rattle.base.specs.declared.book.Batch.{Batch}
 use Rattle.base.specs.declared.book.Entry.{Entry}
@@ -132,13 +132,13 @@ module _ (d : Terms) where
 
   pub backers_each : (P : ℕ → Vote → Type 0) (e : Entry) (q : ℕ) (vs : List (Option Vote))
       → ((k : ℕ) (v : Vote) → get_or vs k None ≡ Some v → v.entry ≡ e → P (q + k) v)
-      → All (λ p. (v : Vote) × (p.1 ≡ v.tag) × P p.0 v) (backers e q vs)
+      → AllByRecursion (λ p. (v : Vote) × (p.1 ≡ v.tag) × P p.0 v) (backers e q vs)
   unfolding backers
   backers_each P e q [] h = tt
   backers_each P e q (None ∷ vs) h = backers_each P e (q + 1) vs (λ k v x y. subst (λ (j : ℕ). P j v) (omega arith) (h (suc k) v x y))
   backers_each P e q (Some v ∷ vs) h = go (same_entry v.entry e) refl (backers_each P e (q + 1) vs (λ k u x y. subst (λ (j : ℕ). P j u) (omega arith) (h (suc k) u x y)))
     where
-      go : (b : Bool) → same_entry v.entry e ≡ b → All (Backs P) (backers e (q + 1) vs) → All (Backs P) (backers e q (Some v ∷ vs))
+      go : (b : Bool) → same_entry v.entry e ≡ b → AllByRecursion (Backs P) (backers e (q + 1) vs) → AllByRecursion (Backs P) (backers e q (Some v ∷ vs))
       go true x ih = rw (backers-some e q v vs x) ((v, refl, subst (λ (j : ℕ). P j v) (omega arith) (h 0 v refl (same_entry_true v.entry e x))), ih)
       go false x ih = rw (backers_none e q v vs x) ih
 

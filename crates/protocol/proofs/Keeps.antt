@@ -1,6 +1,6 @@
 -- Each step inside a call keeps a world safe.
 use Rattle.std.proofs.Common.{◌≡◌, ℕ, zero, suc, ◌+◌, ◌-◌, ◌*◌, ◌<◌, ◌≤◌, Bool, true, false, cond, eqb, ◌⊎◌, List, [], ◌∷◌, length, get_or, set, Some, None, Option, sym, refl, ap, ◌∙◌, subst, ap₂, subst₂, inl, inr, mul-le-mul_right, suc-mul, arith}
-use Rattle.std.specs.List.{AllByRecursion as All}
+use Rattle.std.specs.List.{AllByRecursion}
 use Rattle.std.proofs.lemmas.Bool.{ne_eqb, cases_eq, both_ways, cases_lt}
 use Rattle.std.proofs.lemmas.List.{get_or-set_same, get_or-set_other, length-set}
 use Rattle.base.specs.declared.book.Batch.{Batch}
@@ -82,8 +82,8 @@ module _ (d : Terms) (intake : List Batch) where
     pub fits : Fits e
     pub quorum : length pairs ≡ d.t + 1
     pub rising : Rising d 0 pairs
-    pub sealed : All (λ x. x.1 ≡ d.tag x.0 (proposes x.0 b e)) pairs
-    pub known : All (λ x. d.faulty x.0 ≡ false → Issued (proposes x.0 b e) p) pairs
+    pub sealed : AllByRecursion (λ x. x.1 ≡ d.tag x.0 (proposes x.0 b e)) pairs
+    pub known : AllByRecursion (λ x. d.faulty x.0 ≡ false → Issued (proposes x.0 b e) p) pairs
 
   module _ (law : Usable d) (sized : length intake ≡ d.batches) where
     place_small : (i : ℕ) → Correct d i → (w : World) {g : Ghost} → Safe d intake g w → i < length w.stations

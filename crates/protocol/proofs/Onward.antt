@@ -1,6 +1,6 @@
 -- What lies between two points of a run: counts and votes grow, and a call can be found again.
 use Rattle.std.proofs.Common.{◌≡◌, ℕ, ◌+◌, ◌<◌, ◌≤◌, Bool, true, false, cond, ◌⊎◌, List, [], ◌∷◌, ◌++◌, length, get_or, None, Err, sym, refl, ap, ◌∙◌, subst, subst₂, arith}
-use Rattle.std.specs.List.{AllByRecursion as All}
+use Rattle.std.specs.List.{AllByRecursion}
 use Rattle.std.proofs.lemmas.Bool.{both_ways}
 use Rattle.base.specs.declared.book.Batch.{Batch}
 use Rattle.base.specs.declared.fault.Fault.{Fault}
@@ -43,7 +43,7 @@ left_number i c b (y ∷ later) e before m n o q =
     let s : opened_by i (y ∷ (later ++ e ∷ before)) ≡ opened_by i (later ++ e ∷ before) = omega (arith, lo, opened_more i y (later ++ e ∷ before)) in
     omega (arith, left_number i c b later e before m n o (omega arith), number_more i y (later ++ e ∷ before) s)
 
-pub rung_round : (i c b : ℕ) (r h₀ : History) → All Calm r → Rung i c b (r ++ h₀) → Rung i c b h₀
+pub rung_round : (i c b : ℕ) (r h₀ : History) → AllByRecursion Calm r → Rung i c b (r ++ h₀) → Rung i c b h₀
 unfolding event_head event_tail
 rung_round i c b [] h₀ calm o = o
 rung_round i c b (x ∷ r) h₀ calm o = go o.0 o.1 o.2 o.3 o.4 (rung_round i c b r h₀ calm.1)
@@ -56,7 +56,7 @@ rung_round i c b (x ∷ r) h₀ calm o = go o.0 o.1 o.2 o.3 o.4 (rung_round i c 
         absurd (both_ways (rings i e) z p.0)
     go (y ∷ later) e before q p ih = ih (later, e, before, ap event_tail q, p)
 
-pub calm_at : (r : History) → All Calm r → (later : History) (e : Event) (before : History) → r ≡ later ++ e ∷ before → Calm e
+pub calm_at : (r : History) → AllByRecursion Calm r → (later : History) (e : Event) (before : History) → r ≡ later ++ e ∷ before → Calm e
 unfolding event_head event_tail
 calm_at [] a [] e before q = absurd (let z : ◌≡◌ {A = ℕ} 0 1 = cc in omega arith)
 calm_at [] a (x ∷ later) e before q = absurd (let z : ◌≡◌ {A = ℕ} 0 1 = cc in omega arith)

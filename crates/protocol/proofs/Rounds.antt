@@ -1,6 +1,6 @@
 -- One full round: decisions reach all, a station behind comes on, and a sound committee ends the batch.
 use Rattle.std.proofs.Common.{◌≡◌, ℕ, ◌+◌, ◌<◌, ◌≤◌, Bool, true, false, cond, eqb, ◌⊎◌, List, [], ◌∷◌, ◌++◌, length, get_or, Some, None, Ok, Err, Option, Result, sym, refl, ap, ◌∙◌, subst, ap₂, subst₂, inl, inr, ⊎_elim, arith}
-use Rattle.std.specs.List.{AllByRecursion as All}
+use Rattle.std.specs.List.{AllByRecursion}
 use Rattle.std.proofs.lemmas.Bool.{eq-eqb, both_ways, cases_lt}
 use Rattle.std.proofs.ByRecursion.{All-weaker}
 use Rattle.base.specs.declared.book.Batch.{Batch}
@@ -118,7 +118,7 @@ module _ (d : Terms) (intake : List Batch) (law : Usable d) (sized : length inta
 
             tags : first_pair (pair_sealed d bs) 32 (pairs_of bs) ≡ None
             tags = first_pair_none (pair_sealed d bs) 32 (pairs_of bs)
-                (subst (λ (ps : List (ℕ × ℕ)). All (λ p. pair_sealed d bs p ≡ true) ps) (sym rd.pairs_are) (All-weaker _ _ right x.pairs cert.sealed))
+                (subst (λ (ps : List (ℕ × ℕ)). AllByRecursion (λ p. pair_sealed d bs p ≡ true) ps) (sym rd.pairs_are) (All-weaker _ _ right x.pairs cert.sealed))
 
             accepts : booked_by i (t.before ++ h₀) < k + 1 → marks has_decided i t.event ≡ true
             accepts l =

@@ -1,6 +1,6 @@
 -- Every run of calls on a new hall keeps the invariant, and so the law.
 use Rattle.std.proofs.Common.{◌≡◌, ℕ, suc, ◌+◌, ◌-◌, ◌*◌, ◌<◌, ◌≤◌, true, false, List, [], ◌∷◌, ◌++◌, length, get_or, take, drop, sym, refl, ap, ◌∙◌, subst, ap₂, subst₂, mul-le-mul_right, suc-mul, arith}
-use Rattle.std.specs.List.{AllByRecursion as All}
+use Rattle.std.specs.List.{AllByRecursion}
 use Rattle.std.proofs.lemmas.Bool.{both_ways}
 use Rattle.std.proofs.lemmas.List.{length-take-le, same_lists, length-drop, get_or-take, get_or-drop, get_or_default}
 use Rattle.std.proofs.ByRecursion.{All-weaker}
@@ -120,9 +120,9 @@ module _ (d : Terms) (intake : List Batch) (law : Usable d) where
         right : (p : ℕ × ℕ) → p.1 ≡ d.tag p.0 (proposes p.0 b e) → pair_sealed d (frame_at w.pool f) p ≡ true
         right p x = sealed_pair d.n d.t d.batches d.tag (frame_at w.pool f) p (x ∙ ap (d.tag p.0) (sym (states p.0)))
 
-        issues : All (λ p. d.faulty p.0 ≡ false → Issued (proposes p.0 b e) w.pool) pairs
+        issues : AllByRecursion (λ p. d.faulty p.0 ≡ false → Issued (proposes p.0 b e) w.pool) pairs
         issues = all_both _ _ _ (λ p x y a. subst (λ (s : List ℕ). Issued s w.pool) (states p.0) (y a (right p x))) pairs ce.sealed
-            (subst (λ (ps : List (ℕ × ℕ)). All (λ p. d.faulty p.0 ≡ false → pair_sealed d (frame_at w.pool f) p ≡ true → Issued (pair_states (frame_at w.pool f) p.0) w.pool) ps) r.pairs_are
+            (subst (λ (ps : List (ℕ × ℕ)). AllByRecursion (λ p. d.faulty p.0 ≡ false → pair_sealed d (frame_at w.pool f) p ≡ true → Issued (pair_states (frame_at w.pool f) p.0) w.pool) ps) r.pairs_are
             (known.sealed r.formed).pairs)
 
     pub booked_certified : BookedCertified d h

@@ -2,7 +2,7 @@
 -- what the calls so far have done.
 use Rattle.std.proofs.Common.{◌≡◌, ℕ, ◌+◌, ◌-◌, ◌*◌, ◌<◌, ◌≤◌, Bool, true, false, cond, ◌⊎◌, List, [], ◌∷◌, length, get_or, take, set, replicate, Some, None, Option, sym, refl, ap, ◌∙◌, subst, ap₂, subst₂, inl, inr, arith}
 use mathlib.Core.Path.{subst₃}
-use Rattle.std.specs.List.{AllByRecursion as All}
+use Rattle.std.specs.List.{AllByRecursion}
 use Rattle.std.proofs.lemmas.Bool.{cases_eq}
 use Rattle.std.proofs.lemmas.List.{get_or-set_same, get_or-set_other}
 use Rattle.std.proofs.ByRecursion.{All-weaker, All-get_or}
@@ -54,7 +54,7 @@ module _ (d : Terms) (intake : List Batch) where
   -- right tags of correct stations in a well-formed frame are on issued statements
   pub record Sealed (bs : List ℕ) (pool : List Slot) : Type 0 where
     pub sender : d.faulty (sender_of bs) ≡ false → sender_sealed d bs ≡ true → Issued (take 24 bs) pool
-    pub pairs : All (λ p. d.faulty p.0 ≡ false → pair_sealed d bs p ≡ true → Issued (pair_states bs p.0) pool) (pairs_of bs)
+    pub pairs : AllByRecursion (λ p. d.faulty p.0 ≡ false → pair_sealed d bs p ≡ true → Issued (pair_states bs p.0) pool) (pairs_of bs)
 
   pub record Known (bs : List ℕ) (pool : List Slot) : Type 0 where
     pub bytes : Bytes bs
@@ -219,12 +219,12 @@ module _ (d : Terms) (intake : List Batch) where
           iss = record { place = at.place; own = rw same refl; filled = rw same some; begins = ap (take 24) (ap framed same ∙ is) }
 
   known_of : {bs : List ℕ} {kind j b c m : ℕ} {pairs : List (ℕ × ℕ)} {s : List ℕ} → Reads d bs kind j b c m pairs s → (q : List Slot) → Issued (take 24 bs) q
-      → All (λ p. d.faulty p.0 ≡ false → Issued (pair_states bs p.0) q) pairs → Known bs q
+      → AllByRecursion (λ p. d.faulty p.0 ≡ false → Issued (pair_states bs p.0) q) pairs → Known bs q
   known_of {bs} {pairs = pairs} r q i ps = record {
     bytes = r.bytes;
     sealed = λ m. record {
       sender = λ a b. i;
-      pairs = subst (λ (ps : List (ℕ × ℕ)). All (λ p. d.faulty p.0 ≡ false → pair_sealed d bs p ≡ true → Issued (pair_states bs p.0) q) ps) (sym r.pairs_are)
+      pairs = subst (λ (ps : List (ℕ × ℕ)). AllByRecursion (λ p. d.faulty p.0 ≡ false → pair_sealed d bs p ≡ true → Issued (pair_states bs p.0) q) ps) (sym r.pairs_are)
           (All-weaker _ _ (λ p f a b. f a) pairs ps);
     };
   }
@@ -245,7 +245,7 @@ module _ (d : Terms) (intake : List Batch) where
         add_own g p kept room _ r.some r.short (proposal j k e c en wk refl) (λ q gr i. known_of r q i tt)
 
     pub add_decision : (g : Ghost) (p : List Slot) → PoolSafe g p → 1 ≤ free p → (bs : List ℕ) (j b : ℕ) (e : Entry) (pairs : List (ℕ × ℕ)) → Correct d j
-        → Certifies d bs j b e pairs → All (λ x. d.faulty x.0 ≡ false → Issued (proposes x.0 b e) p) pairs
+        → Certifies d bs j b e pairs → AllByRecursion (λ x. d.faulty x.0 ≡ false → Issued (proposes x.0 b e) p) pairs
         → Added g bs p (enter (slot_of 0 bs) p)
     add_decision g p kept room bs j b e pairs c ce known =
         let r = reads_decision d law bs j b e pairs ce in
@@ -320,7 +320,7 @@ module _ (d : Terms) (intake : List Batch) where
 
     -- t + 1 different stations whose right tags are known hold the clerk's entry
     pub certified : (g : Ghost) (p : List Slot) → PoolSafe g p → (b : ℕ) (e : Entry) (pairs : List (ℕ × ℕ)) → Within d b → Fits e → Rising d 0 pairs → length pairs ≡ d.t + 1
-        → All (λ x. d.faulty x.0 ≡ false → Issued (proposes x.0 b e) p) pairs → Entered (b - 1) e
+        → AllByRecursion (λ x. d.faulty x.0 ≡ false → Issued (proposes x.0 b e) p) pairs → Entered (b - 1) e
     certified g p kept b e pairs wi fi ri le ks =
         let o = outside d d.faulty 0 pairs (omega arith) ri (omega (arith, law.few_faulty, le)) in
         (issued_proposal g p kept _ b e wi fi (All-get_or (λ x. d.faulty x.0 ≡ false → Issued (proposes x.0 b e) p) pairs o.0 (0, 0) o.1 ks o.2)).0

@@ -1,7 +1,7 @@
 -- Refusals change nothing, an Inject adds one frame, the clerk books every lawful batch, and the law
 -- excludes halls that book, certify or work otherwise.
 use Rattle.std.proofs.Common.{◌≡◌, ℕ, ◌-◌, ◌*◌, ◌≤◌, true, false, List, [], ◌∷◌, length, get_or, drop, Ok, Err, sym, refl, ap, ◌∙◌, subst, arith}
-use Rattle.std.specs.List.{AllByRecursion as All}
+use Rattle.std.specs.List.{AllByRecursion}
 use Rattle.std.proofs.lemmas.Bool.{both_ways}
 use Rattle.std.proofs.lemmas.List.{get_or-set_same, get_or-take, get_or-drop, get_or_default}
 use Rattle.base.specs.declared.book.Batch.{Batch}
@@ -64,7 +64,7 @@ module _ (d : Terms) where
           books = refl;
         }
 
-  clerk_long : (carry : ℕ) (bs : List Batch) → All (λ b. d.lawful b ≡ true) bs → length (clerk d carry bs) ≡ length bs
+  clerk_long : (carry : ℕ) (bs : List Batch) → AllByRecursion (λ b. d.lawful b ≡ true) bs → length (clerk d carry bs) ≡ length bs
   clerk_long carry [] h = refl
   clerk_long carry (b ∷ bs) h = ap length (clerk-lawful d carry b bs h.0) ∙ omega (arith, clerk_long (works d carry b).carry bs h.1)
 

@@ -1,7 +1,7 @@
 -- The steps between a call and its inner steps: reselecting, settling, taking a frame, Inject and Open,
 -- and what a taken frame says.
 use Rattle.std.proofs.Common.{◌≡◌, ℕ, ◌+◌, ◌-◌, ◌<◌, ◌≤◌, Bool, true, false, cond, not, eqb, ltb, ◌⊎◌, List, [], ◌∷◌, length, get_or, take, set, replicate, Some, None, Option, sym, refl, ap, ◌∙◌, subst, ap₂, subst₂, inl, inr, arith}
-use Rattle.std.specs.List.{AllByRecursion as All}
+use Rattle.std.specs.List.{AllByRecursion}
 use Rattle.std.proofs.lemmas.Bool.{eqb-true, ltb-true, not-true, not-false, eq-eqb, ne_eqb, both_ways}
 use Rattle.std.proofs.lemmas.List.{get_or-set_other, length-take-le}
 use Rattle.std.proofs.ByRecursion.{All-weaker, All-take}
@@ -139,7 +139,7 @@ module _ (d : Terms) (intake : List Batch) where
           λ z. subst₂ (λ (b : ℕ) (a : Entry). Issued (proposes q b a) w.pool) now y (x.issued z),
         )
 
-        votes : All (λ p. (v : Vote) × (p.1 ≡ v.tag) × ((v.tag ≡ d.tag p.0 (proposes p.0 ((station_at w i).booked + 1) e)) × (d.faulty p.0 ≡ false → Issued (proposes p.0 ((station_at w i).booked + 1) e) w.pool)))
+        votes : AllByRecursion (λ p. (v : Vote) × (p.1 ≡ v.tag) × ((v.tag ≡ d.tag p.0 (proposes p.0 ((station_at w i).booked + 1) e)) × (d.faulty p.0 ≡ false → Issued (proposes p.0 ((station_at w i).booked + 1) e) w.pool)))
             (support d e (station_at w i))
         votes = backers_each d (λ q v. (v.tag ≡ d.tag q (proposes q ((station_at w i).booked + 1) e)) × (d.faulty q ≡ false → Issued (proposes q ((station_at w i).booked + 1) e) w.pool)) e 0 (take d.n (station_at w i).votes)
             (λ k v x y. let z : k ≡ 0 + k = omega arith in rw (← z) (says k v (f.batch_work.voted k v (take_vote d d.n (station_at w i).votes k v x)) y))
@@ -230,8 +230,8 @@ module _ (d : Terms) (intake : List Batch) where
           text q = ap₂ (λ (b c : ℕ). reselects q b c) t.batch fo.next
 
           one : count_of taken ≡ 1 → (q x : ℕ) → pairs_of taken ≡ (q, x) ∷ [] → q < d.n
-              → All (λ p. pair_left d taken p ≡ true) ((q, x) ∷ [])
-              → All (λ p. d.faulty p.0 ≡ false → pair_sealed d taken p ≡ true → Issued (pair_states taken p.0) w.pool) ((q, x) ∷ [])
+              → AllByRecursion (λ p. pair_left d taken p ≡ true) ((q, x) ∷ [])
+              → AllByRecursion (λ p. d.faulty p.0 ≡ false → pair_sealed d taken p ≡ true → Issued (pair_states taken p.0) w.pool) ((q, x) ∷ [])
               → Followed
           one c q x ps qn good iss =
               let ok = and_true (pair_sealed d taken (q, x)) (d.seats (number_of taken - 1) q) good.0 in
@@ -271,9 +271,9 @@ module _ (d : Terms) (intake : List Batch) where
               let c : count_of taken ≡ 1 = eqb-true (count_of taken) 1 (and_true (d.seats (number_of taken) (sender_of taken)) (eqb (count_of taken) 1) h.1).1 in
               let y = says_paired d.n d.t d.batches d.tag taken t.formed c in
               one c y.0 y.1 y.2 y.3
-              (subst (λ (ps : List (ℕ × ℕ)). All (λ p. pair_left d taken p ≡ true) ps) y.2
+              (subst (λ (ps : List (ℕ × ℕ)). AllByRecursion (λ p. pair_left d taken p ≡ true) ps) y.2
               (first_pair_all (pair_left d taken) 32 (pairs_of taken) fo.tags))
-              (subst (λ (ps : List (ℕ × ℕ)). All (λ p. d.faulty p.0 ≡ false → pair_sealed d taken p ≡ true → Issued (pair_states taken p.0) w.pool) ps) y.2
+              (subst (λ (ps : List (ℕ × ℕ)). AllByRecursion (λ p. d.faulty p.0 ≡ false → pair_sealed d taken p ≡ true → Issued (pair_states taken p.0) w.pool) ps) y.2
               (known_here.sealed t.formed).pairs)
 
     -- so a taken reselect frame is an excuse

@@ -1,6 +1,6 @@
 -- What the proof needs of a hall whose own calls are refused neither 6 nor 7, and the runs of `act` on it.
 use Rattle.std.proofs.Common.{◌≡◌, ℕ, ◌+◌, ◌*◌, ◌^◌, ◌<◌, ◌≤◌, true, false, ◌⊎◌, List, [], ◌∷◌, length, replicate, Err}
-use Rattle.std.specs.List.{AllByRecursion as All}
+use Rattle.std.specs.List.{AllByRecursion}
 use Rattle.base.specs.declared.book.Batch.{Batch}
 use Rattle.base.specs.declared.fault.Fault.{Fault}
 use Rattle.base.specs.Refusals.{number_of}
@@ -19,7 +19,7 @@ pub record Usable (d : Terms) : Type 0 where
   pub full : (c : ℕ) → c ≤ 20000 → size (d.seats c) d.n ≡ d.t + 1
   pub never_idle : d.lawful no_batch ≡ false
   pub fits : (carry : ℕ) (b : Batch) → carry < 2 ^ 32 → d.lawful b ≡ true → Fits (works d carry b)
-  pub tags : (i : ℕ) (s : List ℕ) → i < 16 → length s ≡ 24 → All (λ x. x < 256) s → d.tag i s < 2 ^ 64
+  pub tags : (i : ℕ) (s : List ℕ) → i < 16 → length s ≡ 24 → AllByRecursion (λ x. x < 256) s → d.tag i s < 2 ^ 64
 
 -- a hall just made, with buffers of the right lengths
 pub record Begun (d : Terms) (intake : List Batch) (w : World) : Type 0 where

@@ -1,6 +1,6 @@
 -- Smaller claims beside the law: what every call keeps, what Read and Write answer, and what the law excludes.
 use Rattle.std.specs.Prelude.{◌≡◌, ℕ, ◌+◌, ◌-◌, ◌*◌, ◌<◌, ◌≤◌, true, false, List, [], ◌∷◌, length, take, drop, None, Ok, Err, ◌≢◌, slice_index_or, slice_set}
-use Rattle.std.specs.List.{AllByRecursion as All}
+use Rattle.std.specs.List.{AllByRecursion}
 use Rattle.base.specs.declared.book.Batch.{Batch}
 use Rattle.base.specs.declared.book.Entry.{Entry}
 use Rattle.base.specs.declared.fault.Fault.{Fault}
@@ -43,7 +43,7 @@ StaysBounded = (d : Terms) → d.n ≤ 16 → d.lawful no_batch ≡ false → (i
 
 -- the checks of a delivered decision let a frame pass exactly when it is a certificate, by its own fields
 abbrev pub ChecksCertify : Type 0
-ChecksCertify = (d : Terms) → Lawful d → (bs : List ℕ) → All (λ x. x < 256) bs
+ChecksCertify = (d : Terms) → Lawful d → (bs : List ℕ) → AllByRecursion (λ x. x < 256) bs
     → (Passes d.n d.t d.batches d.tag bs → Certificate d.n d.t d.batches d.tag bs)
     × (Certificate d.n d.t d.batches d.tag bs → Passes d.n d.t d.batches d.tag bs)
 
@@ -67,7 +67,7 @@ pub record Wrote (frame buffer : List ℕ) (n : ℕ) (out : List ℕ) : Type 0 w
 abbrev pub WritesLine : Type 0
 WritesLine = (d : Terms) (intake : List Batch) (f : ℕ) (buffer : List ℕ) (w : World)
     → ((x : Fault) → (write_call d intake f buffer w).1 ≡ Err x → (write_call d intake f buffer w).0 ≡ buffer)
-    × ((n : ℕ) → All (λ x. x < 256) (frame_at w.pool f) → (write_call d intake f buffer w).1 ≡ Ok n → Wrote (frame_at w.pool f) buffer n (write_call d intake f buffer w).0)
+    × ((n : ℕ) → AllByRecursion (λ x. x < 256) (frame_at w.pool f) → (write_call d intake f buffer w).1 ≡ Ok n → Wrote (frame_at w.pool f) buffer n (write_call d intake f buffer w).0)
 
 -- What the law excludes
 
@@ -87,4 +87,4 @@ pub record Excluded (d : Terms) (intake : List Batch) (books : List Entry) (h : 
 abbrev pub LawExcludes : Type 0
 LawExcludes = (d : Terms) (intake : List Batch)
     → ((books : List Entry) (h : History) → Law d intake books h → Excluded d intake books h)
-    × (All (λ b. d.lawful b ≡ true) intake → length (clerk d 0 intake) ≡ length intake)
+    × (AllByRecursion (λ b. d.lawful b ≡ true) intake → length (clerk d 0 intake) ≡ length intake)

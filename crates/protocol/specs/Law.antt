@@ -5,7 +5,7 @@
 -- of its own. What stations send each other are frames in slots of one pool. What faulty stations send
 -- comes in from outside, by Inject.
 use Rattle.std.specs.Prelude.{◌≡◌, ℕ, ◌+◌, ◌-◌, ◌*◌, ◌<◌, ◌≤◌, Bool, true, false, cond, ◌⊎◌, List, [], ◌∷◌, ◌++◌, length, take, drop, Ok, Err, Result, ◌==◌, ◌≢◌, nat_eq, slice_index_or}
-use Rattle.std.specs.List.{AllByRecursion as All}
+use Rattle.std.specs.List.{AllByRecursion}
 use Rattle.base.specs.declared.book.Batch.{Batch}
 use Rattle.base.specs.declared.book.Entry.{Entry}
 use Rattle.base.specs.declared.fault.Fault.{Fault}
@@ -184,7 +184,7 @@ module _ (d : Terms) where
   -- the calls of one full round after the history h: every correct station is handed every frame that was
   -- live at its start
   pub record Full (round h : History) : Type 0 where
-    pub calm : All Calm round
+    pub calm : AllByRecursion Calm round
     pub tries : (i f : ℕ) → Correct i → Live f h → Once (λ e before. e.call ≡ delivery i f) round
 
   -- k full rounds in a row, from one history to another
@@ -222,7 +222,7 @@ module _ (d : Terms) where
   TrueCertificates intake h = (f sender b : ℕ) (e : Entry) (pairs : List (ℕ × ℕ)) → Certifies (frame_at (pool_of h) f) sender b e pairs
       → (b ≤ length (clerk 0 intake))
       × (slice_index_or (clerk 0 intake) (b - 1) e ≡ e)
-      × All (λ p. d.faulty p.0 ≡ false → WorkedOut p.0 b h) pairs
+      × AllByRecursion (λ p. d.faulty p.0 ≡ false → WorkedOut p.0 b h) pairs
 
   -- for each batch that a correct station has booked, the pool has a certificate of its own
   abbrev pub BookedCertified : History → Type 0

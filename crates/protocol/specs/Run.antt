@@ -1,6 +1,6 @@
 -- Runs of calls on a new hall, and the claim about them all.
 use Rattle.std.specs.Prelude.{◌≡◌, ℕ, zero, suc, ◌+◌, ◌*◌, ◌^◌, ◌<◌, ◌≤◌, Bool, true, false, cond, ◌⊎◌, List, [], ◌∷◌, length, replicate, Err, slice_index_or}
-use Rattle.std.specs.List.{AllByRecursion as All}
+use Rattle.std.specs.List.{AllByRecursion}
 use Rattle.base.specs.declared.book.Batch.{Batch}
 use Rattle.base.specs.declared.fault.Fault.{Fault}
 use Rattle.base.specs.Refusals.{number_of}
@@ -38,7 +38,7 @@ pub record Lawful (d : Terms) : Type 0 where
   -- the rule: from a carry of 32 bits, amount, figure and carry after of a lawful batch are of 32 bits
   pub fits : (carry : ℕ) (b : Batch) → carry < 2 ^ 32 → d.lawful b ≡ true → Of32Bits (d.rule carry b)
   -- the seal: the tag of a station from 0 to 15 on a statement of 24 bytes is of 64 bits
-  pub tags : (i : ℕ) (s : List ℕ) → i < 16 → length s ≡ 24 → All (λ x. x < 256) s → d.tag i s < 2 ^ 64
+  pub tags : (i : ℕ) (s : List ℕ) → i < 16 → length s ≡ 24 → AllByRecursion (λ x. x < 256) s → d.tag i s < 2 ^ 64
 
 -- every slot is empty
 abbrev pub Empty : List Slot → Type 0
