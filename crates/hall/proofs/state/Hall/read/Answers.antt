@@ -1,6 +1,6 @@
-use Rattle.std.proofs.Common.{ap, arith}
-use Rattle.std.proofs.lemmas.Result.{err_from_is_err_and}
+use Rattle.std.proofs.Common.{◌≡◌, [], Ok, ap, arith, rules}
 use Rattle.protocol.specs.declared.station.Station.{Station}
+use Rattle.hall.specs.Called.{world, admitted}
 use Rattle.hall.specs.Join.{terms}
 use Rattle.hall.proofs.Asked.{read_unadmitted, read_unknown, read_unbooked, read_booked, read_place}
 use Rattle.hall.proofs.Whole.{counts}
@@ -10,16 +10,16 @@ pub returns-in_err-admit : goal.returns-in_err-admit
 returns-in_err-admit g c =
     let a = c.args in
     let d = (terms g.R.Rule g.P.Policy g.S.Check a.self.now.setup) in
-    let p = err_from_is_err_and c.from_residual.result c.from_residual.ensures.1 in
-    rw (p.1, p.2) (read_unadmitted d a.intake.now a.self.now.stations a.pool.now a.books.now a.i a.k _ c.in_err-admit.ensures.same)
+    let e = read_unadmitted d a.intake.now a.self.now.stations a.pool.now a.books.now a.i a.k _ c.in_err-admit.ensures.same in
+    search rules
 
 pub returns-in_err-stands : goal.returns-in_err-stands
 returns-in_err-stands g c =
     let a = c.args in
     let d = (terms g.R.Rule g.P.Policy g.S.Check a.self.now.setup) in
-    let f = c.in_ok-admit.ensures.same in
-    let p = err_from_is_err_and c.from_residual-in_err-stands.result c.from_residual-in_err-stands.ensures.1 in
-    rw (p.1, p.2) (read_unknown d a.intake.now a.self.now.stations a.pool.now a.books.now a.i a.k f _ c.in_err-stands.ensures)
+    let f : Ok tt ≡ admitted d a.intake.now (world [] a.pool.now a.books.now) = search rules in
+    let e = read_unknown d a.intake.now a.self.now.stations a.pool.now a.books.now a.i a.k f _ c.in_err-stands.ensures in
+    search rules
 
 pub returns-then-not-is_booked : goal.returns-then-not-is_booked
 returns-then-not-is_booked g c =
