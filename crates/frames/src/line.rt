@@ -1,6 +1,6 @@
 // A frame as a line of lower-case hexadecimal digits.
 ghost use Rattle.std.specs.Prelude.{◌≡◌, ◌*◌, ◌<◌, ◌≤◌, ◌++◌, length, drop, Err, MatchResult, OnOk};
-ghost use Rattle.frames.specs.Frames.{hex, digit as «digit-of»};
+ghost use Rattle.frames.specs.Frames.{hex, digit as digit_of};
 ghost use Rattle.frames.specs.Packed.{Sized, digit_read, line_read, line_written, OneLine};
 
 use super::bytes::FrameBytes;
@@ -55,7 +55,7 @@ pub fn read_line(line: &[u8]) -> Result<FrameBytes, Fault>
 // The digit of a value below sixteen.
 fn digit(value: u8) -> u8
     requires { value < 16 }
-    ensures { result ≡ «digit-of» value }
+    ensures { result ≡ digit_of value }
 {
     if value < 10 {
         b'0' + value

@@ -25,9 +25,9 @@ bit_le_one : (b : Bool) → bit b ≤ 1
 bit_le_one true = omega arith
 bit_le_one false = omega arith
 
-bit_or : (x y : Bool) → bit (x || y) ≤ bit x + bit y
-bit_or true y = omega arith
-bit_or false y = omega arith
+bit_of_or : (x y : Bool) → bit (x || y) ≤ bit x + bit y
+bit_of_or true y = omega arith
+bit_of_or false y = omega arith
 
 bit_apart : (x y : Bool) → (x ≡ true → y ≢ true) → bit (x || y) ≡ bit x + bit y
 bit_apart true true h = absurd (h refl refl)
@@ -54,7 +54,7 @@ count_all (suc n) = omega (arith, count_all n)
 
 count_or_le : (f g : ℕ → Bool) (n : ℕ) → count (λ i. f i || g i) n ≤ count f n + count g n
 count_or_le f g zero = omega arith
-count_or_le f g (suc n) = omega (arith, bit_or (f n) (g n), count_or_le f g n)
+count_or_le f g (suc n) = omega (arith, bit_of_or (f n) (g n), count_or_le f g n)
 
 pub count_or : (f g : ℕ → Bool) (n : ℕ) → ((i : ℕ) → i < n → f i ≡ true → g i ≢ true) → count (λ i. f i || g i) n ≡ count f n + count g n
 count_or f g zero h = refl

@@ -6,7 +6,7 @@ use Rattle.base.specs.declared.book.Batch.{Batch}
 use Rattle.base.specs.declared.book.Entry.{Entry}
 use Rattle.base.specs.declared.fault.Fault.{Fault}
 use Rattle.base.specs.declared.refusal.Refusal.TheVariants.{PoolFull, EarlierBatch, LaterBatch, SenderTag, VoteHeld}
-use Rattle.base.specs.Refusals.{fault_at, number_of as refusal-number}
+use Rattle.base.specs.Refusals.{fault_at, number_of as refusal_number}
 use Rattle.frames.specs.Slots.{frame_at, free}
 use Rattle.frames.specs.Frames.{kind_of, sender_of, batch_of, number_of, tag_of, pairs_of, entry_of, first_pair}
 use Rattle.protocol.specs.declared.station.Vote.{Vote}
@@ -49,7 +49,7 @@ module _ (d : Terms) where
   -- the answer refuses for want of slots
   abbrev pub full : Result Marks Fault → Bool
   full (Ok m) = false
-  full (Err x) = eqb (refusal-number x.refusal) 13
+  full (Err x) = eqb (refusal_number x.refusal) 13
 
   -- what holds of the meeting holds of a Deliver that is ripe and does not lack slots
   pub ripe_rule : (P : Acted → Type 0) (i f : ℕ) (w : World) → Ripe i f w → full (deliver_call d i f w).1 ≡ false → (3 ≤ free w.pool → P (meet d i f (frame_at w.pool f) w)) → P (deliver_call d i f w)

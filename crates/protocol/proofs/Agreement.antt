@@ -20,17 +20,17 @@ use Rattle.protocol.proofs.Passed.{ranged, fitted}
 -- where calls are not refused 6 or 7
 played_law : (d : Terms) → Usable d → SoundInTurn d → (intake : List Batch) (start : World) → Begun d intake start
     → (h : History) (w : World) → Played d intake start h w → Law d intake w.books h
-played_law d law sound-turn intake start new h w run =
+played_law d law sound_turn intake start new h w run =
     let inv = run_inv d intake law start new h w run in
     record {
       one_book = one_book d intake law new.intake_size h w inv;
       true_certificates = true_certificates d intake law new.intake_size h w inv;
       booked_certified = booked_certified d intake law new.intake_size h w inv;
-      sound_in_turn = sound-turn;
-      booked_in_rounds = λ b c lag before open-all behind sound rs.
-          let (low, high, least, lag-is) = behind in
+      sound_in_turn = sound_turn;
+      booked_in_rounds = λ b c lag before open_all behind sound rs.
+          let (low, high, least, lag_is) = behind in
           let top = high.reached in
-          rounds_book d intake law start new b c lag sound before h w run (omega (arith, top.1.2)) open-all
+          rounds_book d intake law start new b c lag sound before h w run (omega (arith, top.1.2)) open_all
           (top.0, top.1.0, omega (arith, top.2)) high.bounds (λ i at. omega (arith, least.bounds i at)) rs;
       lazy = inv.lazy;
     }

@@ -18,7 +18,7 @@ use Rattle.frames.specs.Packed.{packed, unpacked, line_read}
 use Rattle.frames.specs.Typed.{kind_number, frame_of, decoded}
 use Rattle.frames.proofs.Basics.{and_true}
 use Rattle.frames.proofs.Codec.{line_bytes}
-use Rattle.frames.proofs.Decoding.{held as held-frame, named}
+use Rattle.frames.proofs.Decoding.{held as held_frame, named}
 use Rattle.frames.proofs.Formed.{Formed, none_formed}
 use Rattle.protocol.specs.declared.station.Station.{Station}
 use Rattle.protocol.specs.Law.{Terms}
@@ -210,7 +210,7 @@ module _ (d : Terms) where
       let e = passing_ok (leb 1 (length bs)) NoFrame _ f c.1 in
       let r = passing_ok (leb 3 (free pool)) PoolFull _ f e.1 in
       let y = then_ok (decoded d.n d.t d.batches bs) _ f r.1 in
-      let g = held-frame (malformed d bs) (frame_of bs) y.0 (sym y.1) in
+      let g = held_frame (malformed d bs) (frame_of bs) y.0 (sym y.1) in
       let lo = passing_ok (leb (s.booked + 1) y.0.batch) EarlierBatch _ f y.2 in
       let hi = passing_ok (leb y.0.batch (s.booked + 1)) LaterBatch _ f lo.1 in
       let t = passing_at_ok (sender_right d y.0) SenderTag 24 _ f hi.1 in

@@ -89,14 +89,14 @@ module _ (d : Terms) (intake : List Batch) (law : Usable d) (start : World) (new
     abbrev Goal : History → Type 0
     Goal h = (i : ℕ) → Correct d i → b ≤ booked_by i h
 
-    module _ (some : 1 ≤ b) (r h : History) (round : Full d r h) (w₀ w : World) (run : Played d intake start h w₀) (on : Onward d intake h w₀ r w) (open-all : (i : ℕ) → Correct d i → b ≤ opened_by i h) where
+    module _ (some : 1 ≤ b) (r h : History) (round : Full d r h) (w₀ w : World) (run : Played d intake start h w₀) (on : Onward d intake h w₀ r w) (open_all : (i : ℕ) → Correct d i → b ≤ opened_by i h) where
       inv₀ : Inv d intake h w₀
       inv₀ = run_inv d intake law start new h w₀ run
 
       all_book : Booker h → Goal (r ++ h)
       all_book x i co =
           let z : b - 1 + 1 ≡ b = omega arith in
-          omega (arith, some, round_decides d intake law new.intake_size h w₀ inv₀ r w on round x.0 (b - 1) x.1 (omega (arith, some, x.2)) i co (omega (arith, z, open-all i co)))
+          omega (arith, some, round_decides d intake law new.intake_size h w₀ inv₀ r w on round x.0 (b - 1) x.1 (omega (arith, some, x.2)) i co (omega (arith, z, open_all i co)))
 
       next_state : (k : ℕ) → k < lag → Behind k h → State (k + 1) (r ++ h)
       next_state k low be = go (booker (r ++ h))
@@ -118,7 +118,7 @@ module _ (d : Terms) (intake : List Batch) (law : Usable d) (start : World) (new
           })
             where
               work : (i : ℕ) → Correct d i → (at_work d (station_at w i) ≡ true) × ((station_at w i).booked + 1 ≡ b) × (opened_by i (r ++ h) ≡ b)
-              work i co = at-batch d intake inv₁ i co b (omega (arith, open-all i co, since.opened_up i)) (f i co)
+              work i co = at-batch d intake inv₁ i co b (omega (arith, open_all i co, since.opened_up i)) (f i co)
 
               nr : (i : ℕ) → Correct d i → Rung i c b (r ++ h) → ⊥
               nr i co o = be.no_ring i co (rung_round i c b r h round.calm o)
@@ -136,7 +136,7 @@ module _ (d : Terms) (intake : List Batch) (law : Usable d) (start : World) (new
                   cj = be.top.1
 
                   aj : (at_work d (station_at w₀ j) ≡ true) × ((station_at w₀ j).booked + 1 ≡ b) × (opened_by j h ≡ b)
-                  aj = at-batch d intake inv₀ j cj b (open-all j cj) (be.working j cj).1
+                  aj = at-batch d intake inv₀ j cj b (open_all j cj) (be.working j cj).1
 
                   trail : committee_of i h < c → Trail d intake b (committee_of i h) h w₀.pool
                   trail l = subst (λ (x : ℕ). Trail d intake x (committee_of i h) h w₀.pool) aj.1
@@ -156,13 +156,13 @@ module _ (d : Terms) (intake : List Batch) (law : Usable d) (start : World) (new
         → ((i : ℕ) → IsAtWork d i b before → committee_of i before ≤ c)
         → ((i : ℕ) → IsAtWork d i b before → c ≤ committee_of i before + lag)
         → Rounds d (lag + 1) before h → Goal h
-    rounds_book before h w run some open-all top upper lower rs = (rounds_rule d P (lag + 1) before h rs base step w run).2 refl
+    rounds_book before h w run some open_all top upper lower rs = (rounds_rule d P (lag + 1) before h rs base step w run).2 refl
       where
         P : ℕ → History → Type 0
         P k h = (w : World) → Played d intake start h w → ((i : ℕ) → Correct d i → b ≤ opened_by i h) × (k ≤ lag → State k h) × (k ≡ lag + 1 → Goal h)
 
         base : P 0 before
-        base v rv = (open-all, (λ _. go (booker before)), (λ z. absurd (omega arith)))
+        base v rv = (open_all, (λ _. go (booker before)), (λ z. absurd (omega arith)))
           where
             inv : Inv d intake before v
             inv = run_inv d intake law start new before v rv
@@ -178,7 +178,7 @@ module _ (d : Terms) (intake : List Batch) (law : Usable d) (start : World) (new
             })
               where
                 work : (i : ℕ) → Correct d i → IsAtWork d i b before
-                work i co = (co, (at-batch d intake inv i co b (open-all i co) (f i co)).2, f i co)
+                work i co = (co, (at-batch d intake inv i co b (open_all i co) (f i co)).2, f i co)
 
                 alone : (i : ℕ) → Correct d i → Rung i c b before → ⊥
                 alone i co o =

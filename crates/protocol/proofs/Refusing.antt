@@ -50,8 +50,8 @@ refusals_law d intake books sound h a = record {
   true_certificates = λ f sender b e pairs c. absurd (uncertified f sender b e pairs c);
   booked_certified = λ i b c lo hi. absurd (omega (arith, booked_none i h a));
   sound_in_turn = sound;
-  booked_in_rounds = λ b c lag before open-all behind-by s rs.
-      let at = behind-by.1.reached in
+  booked_in_rounds = λ b c lag before open_all behind_by s rs.
+      let at = behind_by.1.reached in
       absurd (omega (arith, at.1.1, at.1.2, opened_none at.0 before (rounds_behind (lag + 1) before h rs a)));
   lazy = λ later e before q i c m.
       let r = (behind later (e ∷ before) (subst (AllByRecursion Refused) q a)).0 in

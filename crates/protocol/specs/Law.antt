@@ -14,7 +14,7 @@ use Rattle.rules.specs.declared.rule.Outcome.{Outcome}
 use Rattle.rules.specs.Clerk.{worked, clerk_book}
 use Rattle.frames.specs.declared.slot.Slot.{Slot}
 use Rattle.frames.specs.Slots.{frame_at}
-use Rattle.frames.specs.Certificates.{Rising as Rising-below, Certifies as Certifies-by}
+use Rattle.frames.specs.Certificates.{Rising as RisingBelow, Certifies as CertifiesBy}
 
 -- the terms that a hall is joined from, by their meanings; stations are numbered from 0, batches from 1
 pub record Terms : Type 0 where
@@ -204,12 +204,12 @@ module _ (d : Terms) where
 
   -- pairs of different stations of the table, in rising order from `low` on
   abbrev pub Rising : ℕ → List (ℕ × ℕ) → Type 0
-  Rising low ps = Rising-below d.n low ps
+  Rising low ps = RisingBelow d.n low ps
 
   -- A certificate shows that a batch was decided upon: a well-formed decision of its sender whose tags are
   -- all right, those of t + 1 different stations that proposed its entry.
   abbrev pub Certifies : List ℕ → ℕ → ℕ → Entry → List (ℕ × ℕ) → Type 0
-  Certifies frame sender b e pairs = Certifies-by d.n d.t d.batches d.tag frame sender b e pairs
+  Certifies frame sender b e pairs = CertifiesBy d.n d.t d.batches d.tag frame sender b e pairs
 
   -- what a correct station has booked is the clerk's book, up to some batch
   abbrev pub OneBook : List Batch → List Entry → History → Type 0

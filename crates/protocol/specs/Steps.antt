@@ -11,7 +11,7 @@ use Rattle.frames.specs.declared.slot.Slot.{Slot}
 use Rattle.frames.specs.Bytes.{be8, statement, entry_bytes, proposes, reselects, pair_bytes}
 use Rattle.frames.specs.Slots.{no_slot, frame_at, free, enter, slot_of, issued}
 use Rattle.frames.specs.Frames.{◌and◌, entry_of, kind_of, sender_of, batch_of, number_of, count_of, tag_of, pairs_of, pair_states, first_pair, unhex, line_fault, hex}
-use Rattle.frames.specs.Certificates.{malformed as malformed-for, sender_sealed as sealed_by, pair_sealed as pair-by}
+use Rattle.frames.specs.Certificates.{malformed as malformed_for, sender_sealed as sealed_by, pair_sealed as pair_by}
 use Rattle.protocol.specs.declared.station.Vote.{Vote}
 use Rattle.protocol.specs.declared.station.Station.{Station}
 use Rattle.protocol.specs.Law.{Terms, Call, opening, delivery, ringing, injection, Marks, works}
@@ -131,7 +131,7 @@ shows bs = cond (count_of bs == 0) ((sender_of bs, tag_of bs) ∷ []) (pairs_of 
 module _ (d : Terms) where
   -- why a frame is malformed: the place of the first field that fails
   abbrev pub malformed : List ℕ → Option ℕ
-  malformed bs = malformed-for d.n d.t d.batches bs
+  malformed bs = malformed_for d.n d.t d.batches bs
 
   -- the sender's tag is right
   abbrev pub sender_sealed : List ℕ → Bool
@@ -139,7 +139,7 @@ module _ (d : Terms) where
 
   -- a pair's tag is right
   abbrev pub pair_sealed : List ℕ → ℕ × ℕ → Bool
-  pair_sealed bs p = pair-by d.tag bs p
+  pair_sealed bs p = pair_by d.tag bs p
 
   -- it has a batch at work
   abbrev pub at_work : Station → Bool
