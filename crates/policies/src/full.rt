@@ -6,7 +6,7 @@ ghost use Rattle.policies.specs.Tables.{locked_plain};
 ghost use Rattle.policies.specs.Masks.{masks, binomial, holds, mask_of, full_turn, full_seats, Listed};
 ghost use Rattle.policies.specs.Covering;
 ghost use Rattle.policies.specs.Covering.{exactly, covers};
-ghost use Rattle.std.proofs.Common.{rules, arith};
+ghost use Rattle.std.proofs.Common.{rules};
 
 use super::policy::{LAST, Policy};
 use super::table::Locked;
@@ -123,9 +123,9 @@ impl Policy for Full {
 
     ghost exact = { λ p. exactly p.n p.t p.wide };
 
-    ghost above = { first_of (Prim.search rules, Prim.grind (arith, Self.row.coded.inj)) };
+    ghost above = { Prim.search rules };
 
-    ghost outside = { first_of (Prim.search rules, Prim.grind (arith, Self.row.coded.inj)) };
+    ghost outside = { Prim.search rules };
 
     ghost covering = { λ p. covers p.n p.t p.wide };
 

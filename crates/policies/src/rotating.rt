@@ -6,7 +6,7 @@ ghost use Rattle.policies.specs.Sizes.{sizes};
 ghost use Rattle.policies.specs.Tables.{locked_plain};
 ghost use Rattle.policies.specs.Rotating.{in_row, rotating_seats, rotating_turn, rotating_of};
 ghost use Rattle.policies.specs.Rows.{exactly, covers};
-ghost use Rattle.std.proofs.Common.{rules, arith};
+ghost use Rattle.std.proofs.Common.{rules};
 
 use super::policy::{LAST, Policy};
 use super::table::Locked;
@@ -62,13 +62,13 @@ impl Policy for Rotating {
 
     ghost seats = { λ s. rotating_seats s.n s.t };
 
-    ghost turns = { first_of (Prim.search rules, Prim.grind (arith, Self.row.coded.inj)) };
+    ghost turns = { Prim.search rules };
 
     ghost exact = { λ p. exactly p.n p.t p.wide };
 
-    ghost above = { first_of (Prim.search rules, Prim.grind (arith, Self.row.coded.inj)) };
+    ghost above = { Prim.search rules };
 
-    ghost outside = { first_of (Prim.search rules, Prim.grind (arith, Self.row.coded.inj)) };
+    ghost outside = { Prim.search rules };
 
     ghost covering = { λ p. covers p.n p.t p.wide };
 
