@@ -27,7 +27,7 @@ pub struct Checked {
     pub certified: usize,
     pub proposals: usize,
     pub rounds: usize,
-    /// Instances of booked-in-rounds whose premises held, rounds and all.
+    /// Instances of the law's `BookedInRounds` whose premises held, rounds and all.
     pub promises: usize,
 }
 

@@ -75,7 +75,7 @@ sized_ok n p q r = grind (arith, nat_tests)
 pub sized_says : (n : ℕ) → (leb 2 n and leb n 208 and eqb (n % 2) 0) ≡ true → (2 ≤ n) × (n ≤ 208) × (n % 2 ≡ 0)
 sized_says n e = (grind (arith, nat_tests), grind (arith, nat_tests), grind (arith, nat_tests))
 
--- what `line-fault l ≡ None` says
+-- what `line_fault l ≡ None` says
 pub record Line (l : List ℕ) : Type 0 where
   pub size : (2 ≤ length l) × (length l ≤ 208)
   pub even : length l % 2 ≡ 0

@@ -1,5 +1,5 @@
 -- The steps of a station and the calls of the hall, on the records and the buffers. A call is a
--- function from a world to the world after it and the answer; `whole-call` is what a caller meets.
+-- function from a world to the world after it and the answer; `whole_call` is what a caller meets.
 use Rattle.std.specs.Prelude.{ℕ, ◌+◌, ◌-◌, ◌*◌, Bool, true, false, cond, not, ltb, leb, List, [], ◌∷◌, ◌++◌, length, get_or, take, drop, replicate, Some, None, Ok, Err, Option, Result, ◌==◌, nat_eq, nat_le, nat_lt, slice_index_or, slice_set}
 use Rattle.base.specs.declared.book.Batch.{Batch}
 use Rattle.base.specs.declared.book.Entry.{Entry}
