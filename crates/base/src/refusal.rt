@@ -1,13 +1,10 @@
 // Every refusal, under its number.
-ghost use Rattle.std.specs.Prelude.{◌≡◌, ◌==◌};
+ghost use Rattle.std.specs.Prelude.{◌≡◌};
 ghost use Rattle.base.specs.Refusals.{number_of, layer_of};
-ghost use Rattle.std.specs.Cmp.Rules.{comparing};
-ghost use Rattle.std.proofs.Common.{rules};
-ghost use Rattle.std.specs.Cmp as Keys;
 
 use super::fault::Layer;
 
-#[derive(Clone, Copy, Debug)]
+#[derive(Clone, Copy, PartialEq, Eq, Debug)]
 pub enum Refusal {
     TableFull = 1,
     UnknownMark = 2,
@@ -58,19 +55,4 @@ impl Refusal {
             _ => Layer::Hall,
         }
     }
-}
-
-// Two refusals are one where their numbers are.
-impl PartialEq for Refusal {
-    ghost eq = { λ a b. (number_of a == number_of b) };
-
-    ghost laws = { Keys.partial_equiv_from_equiv (Prim.search (comparing, rules)) };
-
-    fn eq(&self, other: &Refusal) -> bool {
-        *self as u8 == *other as u8
-    }
-}
-
-impl Eq for Refusal {
-    ghost laws = { Prim.search (comparing, rules) };
 }
