@@ -26,19 +26,12 @@ fn outcome(amount: u32, figure: u32, carry: u32) -> Option<Outcome> {
 
 // n correct stations.
 fn correct(n: u32) -> Result<OpenTable, (OpenTable, Fault)> {
-    let mut table = OpenTable::new();
-    for _ in 0..n {
-        table = table.add(0)?;
-    }
-    Ok(table)
+    (0..n).try_fold(OpenTable::new(), |table, _| table.add(0))
 }
 
-// The number of a refusal, 0 where there is none.
-fn refusal<T: Drop>(r: Result<T, (OpenTable, Fault)>) -> u8 {
-    match r {
-        Ok(_) => 0,
-        Err(back) => back.1.refusal.number(),
-    }
+// The number of a refusal, if there is one.
+fn refusal<T: Drop>(r: Result<T, (OpenTable, Fault)>) -> Option<u8> {
+    r.err().map(|back| back.1.refusal.number())
 }
 
 fn locking(n: u32, t: u32) -> Result<Locked, (OpenTable, Fault)> {
@@ -46,20 +39,13 @@ fn locking(n: u32, t: u32) -> Result<Locked, (OpenTable, Fault)> {
 }
 
 fn locked(n: u32, t: u32) -> Result<Locked, Fail> {
-    match locking(n, t) {
-        Ok(table) => Ok(table),
-        Err(_) => Err(Fail::new("not locked")),
-    }
+    locking(n, t).map_err(|_| Fail::new("not locked"))
 }
 
 fn seats<P: Policy>(policy: &P, c: u32) -> u32 {
-    let mut mask = 0;
-    for i in 0..16u32 {
-        if policy.seated(c, i) {
-            mask |= 1 << i;
-        }
-    }
-    mask
+    (0..16u32)
+        .filter(|i| policy.seated(c, *i))
+        .fold(0, |mask, i| mask | 1 << i)
 }
 
 #[test]
@@ -84,14 +70,12 @@ fn seatings(rt: HostRuntime) -> Result<(), Fail> {
 
 #[test]
 fn refusals(rt: HostRuntime) -> Result<(), Fail> {
-    match Rotating::build(&locked(6, 2)?) {
-        Ok(_) => return Err(Fail::new("six stations are too few")),
-        Err(fault) => assert_eq!(rt; fault.refusal.number(), 5),
-    }
+    let six = Rotating::build(&locked(6, 2)?);
+    assert_eq!(rt; six.err().map(|fault| fault.refusal.number()), Some(5));
     assert!(rt; Rotating::build(&locked(7, 2)?).is_ok());
-    assert_eq!(rt; refusal(correct(17)), 1);
-    assert_eq!(rt; refusal(OpenTable::new().add(2)), 2);
-    assert_eq!(rt; refusal(locking(4, 2)), 3);
-    assert_eq!(rt; refusal(locking(3, 1)), 0);
+    assert_eq!(rt; refusal(correct(17)), Some(1));
+    assert_eq!(rt; refusal(OpenTable::new().add(2)), Some(2));
+    assert_eq!(rt; refusal(locking(4, 2)), Some(3));
+    assert_eq!(rt; refusal(locking(3, 1)), None);
     Ok(())
 }
