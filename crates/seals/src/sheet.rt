@@ -14,7 +14,7 @@ pub struct Sheet {
 fn word(words: &[u64], place: usize) -> u64
     ensures { result ≡ slice_index words.now place }
 {
-    if place < words.len() { words[place] } else { 0 }
+    words.get(place).copied().unwrap_or(0)
 }
 
 fn tag_of(words: &[u64], station: u8, statement: &[u8; 24]) -> u64
@@ -23,18 +23,18 @@ fn tag_of(words: &[u64], station: u8, statement: &[u8; 24]) -> u64
     if station >= 16 {
         return 0;
     }
-    mixed(words, 256 * station as usize, statement)
+    mixed(words, 256 * usize::from(station), statement)
 }
 
 // The xor of the words that the bytes of a statement pick, each turned left by its byte's place.
+#[tactic(auto, unfolding(crate::specs::Sheet::xors))]
 fn mixed(words: &[u64], first: usize, statement: &[u8; 24]) -> u64
     requires { first ≤ 4096 }
     ensures { result ≡ xors (picked words.now first statement.now) 24 }
 {
     let mut tag = 0;
-    for p in 0..24 {
-        let place = first + statement[p] as usize;
-        tag ^= word(words, place).rotate_left(p as u32);
+    for (p, byte) in statement.iter().enumerate() {
+        tag ^= word(words, first + usize::from(*byte)).rotate_left(p as u32);
     }
     tag
 }
