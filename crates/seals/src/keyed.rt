@@ -4,7 +4,7 @@ ghost use Rattle.std.specs.Int.{w64, from_be_bytes};
 ghost use Rattle.seals.specs.Keyed.{keyed_tag, mix};
 ghost use Rattle.std.proofs.Common.{rules};
 
-use super::seal::{Check, Sealing};
+use super::seal::Tagging;
 
 #[derive(Clone, Copy)]
 pub struct Keyed {
@@ -36,18 +36,12 @@ fn tag_of(keys: &[u64; 16], station: u8, statement: &[u8; 24]) -> u64
     folded(*key, words)
 }
 
-impl Check for Keyed {
-    ghost tag = { λ k i l. keyed_tag k.keys i l };
+impl Tagging for Keyed {
+    ghost tagged = { λ k i l. keyed_tag k.keys i l };
 
-    ghost small = { Prim.search rules };
+    ghost fits = { Prim.search rules };
 
-    fn check(&self, station: u8, statement: &[u8; 24], shown: u64) -> bool {
-        shown == tag_of(&self.keys, station, statement)
-    }
-}
-
-impl Sealing for Keyed {
-    fn seal(&self, station: u8, statement: &[u8; 24]) -> u64 {
+    fn tag_of(&self, station: u8, statement: &[u8; 24]) -> u64 {
         tag_of(&self.keys, station, statement)
     }
 }
