@@ -19,7 +19,7 @@ impl Tagging for AnySeal {
     ghost fits = { Prim.search rules };
 
     fn tag_of(&self, station: u8, statement: &[u8; 24]) -> u64 {
-        // A match, no `dyn`: there are these two kinds, and a boxed one would need the heap.
+        // A match: to make a `dyn` of the one chosen would take this same match.
         match self {
             AnySeal::ByKeys(keyed) => keyed.tag_of(station, statement),
             AnySeal::BySheet(sheet) => sheet.tag_of(station, statement),

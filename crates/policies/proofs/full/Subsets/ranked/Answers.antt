@@ -2,26 +2,21 @@ use Rattle.std.proofs.Common.{◌-◌, ◌^◌, ◌<◌, ◌≤◌, get_or, ap, 
 use Rattle.std.proofs.lemmas.Nat.{one_shl}
 use Rattle.policies.specs.Masks.{masks, binomial}
 use Rattle.policies.specs.MasksLemmas.{sound, step_low, step_high}
-use Rattle.policies.proofs.full.mask.Goals as goal
+use Rattle.policies.proofs.full.Subsets.ranked.Goals as goal
 
 pub overflow_add-found : goal.overflow_add-found
 overflow_add-found c =
-    let w = c.ways-without.ensures in
+    let w = c.count-without.ensures in
     let l : binomial (c.loop-b.b - 1) c.loop-b.left ≤ c.loop-b.rest = omega (arith, c.if-rest-without.true) in
     let s = step_high c.loop-b.b c.loop-b.left c.loop-b.rest c.loop-b-test.true c.loop-b.invariant.1 l in
-    let b = sound c.args.n c.args.ones c.args.rank c.requires.below in
-    let m : 2 ^ c.args.n ≤ 2 ^ 16 = pow_mono c.requires.small in
+    let b = sound c.args.self.n c.args.self.ones c.args.rank c.requires in
+    let m : 2 ^ c.args.self.n ≤ 2 ^ 16 = pow_mono c.args.self.small in
     let o = one_shl (c.loop-b.b - 1) 32 (omega arith) in
     omega (arith, c.loop-b.invariant.2)
 
-pub overflow_sub-left : goal.overflow_sub-left
-overflow_sub-left c =
-    let w = c.ways-without.ensures in
-    (step_high c.loop-b.b c.loop-b.left c.loop-b.rest c.loop-b-test.true c.loop-b.invariant.1 (omega (arith, c.if-rest-without.true))).0
-
 pub loop-b-preserved-then-rest-without : goal.loop-b-preserved-then-rest-without
 loop-b-preserved-then-rest-without c =
-    let w = c.ways-without.ensures in
+    let w = c.count-without.ensures in
     let l : binomial (c.loop-b.b - 1) c.loop-b.left ≤ c.loop-b.rest = omega (arith, c.if-rest-without.true) in
     let s = step_high c.loop-b.b c.loop-b.left c.loop-b.rest c.loop-b-test.true c.loop-b.invariant.1 l in
     let o = one_shl (c.loop-b.b - 1) 32 (omega arith) in
@@ -30,6 +25,6 @@ loop-b-preserved-then-rest-without c =
 
 pub loop-b-preserved : goal.loop-b-preserved
 loop-b-preserved c =
-    let w = c.ways-without.ensures in
+    let w = c.count-without.ensures in
     let l : c.loop-b.rest < binomial (c.loop-b.b - 1) c.loop-b.left = omega (arith, c.if-rest-without.false) in
     (omega arith, l, omega (arith, c.loop-b.invariant.2, step_low c.loop-b.b c.loop-b.left c.loop-b.rest c.loop-b-test.true l))
