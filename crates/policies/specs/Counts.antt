@@ -1,8 +1,9 @@
 -- How many numbers below a bound pass a test, and who sits in a committee.
-use Rattle.std.specs.Prelude.{◌≡◌, ℕ, zero, suc, ◌+◌, ◌*◌, ◌/◌, ◌%◌, ◌<◌, ◌≤◌, Bool, true, false, cond, ◌&&◌, ◌||◌, ◌==◌, ◌≢◌, nat_eq, nat_le, nat_lt, refl}
+use Rattle.std.specs.Prelude.{◌≡◌, ℕ, zero, suc, ◌+◌, ◌*◌, ◌/◌, ◌%◌, ◌<◌, ◌≤◌, Bool, true, false, cond, ◌&&◌, ◌||◌, ◌==◌, ◌≢◌, nat_eq, nat_le, nat_lt, refl, Decides}
 use Rattle.std.proofs.Common.{sym, ap, ◌∙◌, subst, ⊎_elim, mul-le-mul_left, mul-suc, add-mul, not-suc-le-zero, arith}
 use Rattle.std.proofs.Math.Nat.{div-add-mod}
-use Rattle.std.proofs.lemmas.Bool.{cases_order, cases_eq, cases_Bool, eq-eqb, ne_eqb, ltb-true, lt-ltb, le-leb, and_parts, or_left, or_right, both_ways}
+use Rattle.std.proofs.lemmas.Bool.{cases_order, cases_eq, cases_Bool, false_from_ne_true, eq-eqb, ne_eqb, ltb-true, lt-ltb, le-leb, and_parts, or_left, or_right, both_ways}
+use Rattle.std.proofs.lemmas.Bool.Decides.{Decides-below_or}
 use Rattle.policies.specs.Seats.{count, last_number, committee_of}
 use Rattle.policies.specs.Rotating.{some}
 
@@ -22,22 +23,16 @@ near n x y e h k =
     (cases_order (x / n) (y / n))
 
 bit_le_one : (b : Bool) → bit b ≤ 1
-bit_le_one true = omega arith
-bit_le_one false = omega arith
+bit_le_one b = grind arith
 
 bit_of_or : (x y : Bool) → bit (x || y) ≤ bit x + bit y
-bit_of_or true y = omega arith
-bit_of_or false y = omega arith
+bit_of_or x y = grind arith
 
 bit_apart : (x y : Bool) → (x ≡ true → y ≢ true) → bit (x || y) ≡ bit x + bit y
-bit_apart true true h = absurd (h refl refl)
-bit_apart true false h = refl
-bit_apart false true h = refl
-bit_apart false false h = refl
+bit_apart x y h = grind arith
 
 bit_mono : (x y : Bool) → (x ≡ true → y ≡ true) → bit x ≤ bit y
-bit_mono true y h = omega (arith, ap bit (h refl))
-bit_mono false y h = omega arith
+bit_mono x y h = grind arith
 
 pub count_same : (f g : ℕ → Bool) (n : ℕ) → ((i : ℕ) → i < n → f i ≡ g i) → count f n ≡ count g n
 count_same f g zero h = refl
@@ -65,16 +60,12 @@ pub count_none : (f : ℕ → Bool) (n : ℕ) → ((i : ℕ) → i < n → f i �
 count_none f zero h = refl
 count_none f (suc n) h = omega (arith, ap bit (h n (omega arith)), count_none f n (λ i l. h i (omega arith)))
 
-not_true : (b : Bool) → (b ≢ true) → b ≡ false
-not_true true h = absurd (h refl)
-not_true false h = refl
-
 -- at most one passes
 pub count_once : (f : ℕ → Bool) (n : ℕ) → ((i j : ℕ) → i < n → j < n → f i ≡ true → f j ≡ true → i ≡ j) → count f n ≤ 1
 count_once f zero h = omega arith
 count_once f (suc n) h = ⊎_elim
     (λ (e : f n ≡ true).
-    let none : count f n ≡ 0 = count_none f n (λ i l. not_true (f i) (λ t. let z : i ≡ n = h i n (omega arith) (omega arith) t e in let w : ⊥ = omega arith in w)) in
+    let none : count f n ≡ 0 = count_none f n (λ i l. false_from_ne_true (f i) (λ t. let z : i ≡ n = h i n (omega arith) (omega arith) t e in let w : ⊥ = omega arith in w)) in
     omega (arith, bit_le_one (f n)))
     (λ (e : f n ≡ false). let b : bit (f n) ≡ 0 = ap bit e in omega (arith, count_once f n (λ i j l k. h i j (omega arith) (omega arith))))
     (cases_Bool (f n))
@@ -100,23 +91,18 @@ one_fails f (suc n) h = ⊎_elim
     (λ (e : f n ≡ false). (n, omega arith, e))
     (cases_Bool (f n))
 
--- a test that some of k tests passes
+-- some of k tests passes
+some_decides : (f : ℕ → Bool) (k : ℕ) → Decides (some f k) ((j : ℕ) × (j < k) × (f j ≡ true))
+some_decides f = Decides-below_or f (λ j. f j ≡ true) (some f) (λ j. (λ e. e, λ e. e)) refl (λ _. refl)
+
 pub some_here : (f : ℕ → Bool) (k j : ℕ) → j < k → f j ≡ true → some f k ≡ true
-some_here f zero j h e = absurd (not-suc-le-zero h)
-some_here f (suc k) j h e = ⊎_elim
-    (λ (q : j ≡ k). or_left (f k) (some f k) (subst (λ z. f z ≡ true) q e))
-    (λ (q : j ≡ k → ⊥). let l : j < k = omega (arith, q) in or_right (f k) (some f k) (some_here f k j l e))
-    (cases_eq j k)
+some_here f k j h e = (some_decides f k).1 (j, h, e)
 
 pub some_at : (f : ℕ → Bool) (k : ℕ) → some f k ≡ true → (j : ℕ) × (j < k) × (f j ≡ true)
-some_at f zero e = absurd (both_ways false refl e)
-some_at f (suc k) e = ⊎_elim
-    (λ (q : f k ≡ true). (k, omega arith, q))
-    (λ (q : f k ≡ false). let r = some_at f k (ap (λ b. b || some f k) (sym q) ∙ e) in (r.0, omega (arith, r.1), r.2))
-    (cases_Bool (f k))
+some_at f k = (some_decides f k).0
 
 pub some_none : (f : ℕ → Bool) (k : ℕ) → some f k ≡ false → (j : ℕ) → j < k → f j ≡ false
-some_none f k e j h = not_true (f j) (λ t. both_ways (some f k) e (some_here f k j h t))
+some_none f k e j h = false_from_ne_true (f j) (λ t. both_ways (some f k) e (some_here f k j h t))
 
 count_and : (b : Bool) (f : ℕ → Bool) (n c : ℕ) → count f n ≤ c → count (λ i. b && f i) n ≤ bit b * c
 count_and true f n c h = omega arith
