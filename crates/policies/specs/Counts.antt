@@ -22,25 +22,13 @@ near n x y e h k =
     (λ (l : y / n < x / n). let p = mul-le-mul_left n l in let s = mul-suc n (y / n) in let z : ⊥ = omega arith in absurd z))
     (cases_order (x / n) (y / n))
 
-bit_le_one : (b : Bool) → bit b ≤ 1
-bit_le_one b = grind arith
-
-bit_of_or : (x y : Bool) → bit (x || y) ≤ bit x + bit y
-bit_of_or x y = grind arith
-
-bit_apart : (x y : Bool) → (x ≡ true → y ≢ true) → bit (x || y) ≡ bit x + bit y
-bit_apart x y h = grind arith
-
-bit_mono : (x y : Bool) → (x ≡ true → y ≡ true) → bit x ≤ bit y
-bit_mono x y h = grind arith
-
 pub count_same : (f g : ℕ → Bool) (n : ℕ) → ((i : ℕ) → i < n → f i ≡ g i) → count f n ≡ count g n
 count_same f g zero h = refl
 count_same f g (suc n) h = omega (arith, ap bit (h n (omega arith)), count_same f g n (λ i l. h i (omega arith)))
 
 pub count_mono : (f g : ℕ → Bool) (n : ℕ) → ((i : ℕ) → f i ≡ true → g i ≡ true) → count f n ≤ count g n
 count_mono f g zero h = omega arith
-count_mono f g (suc n) h = omega (arith, bit_mono (f n) (g n) (h n), count_mono f g n h)
+count_mono f g (suc n) h = grind (arith, h n, count_mono f g n h)
 
 -- everything passes
 pub count_all : (n : ℕ) → count (λ _. true) n ≡ n
@@ -49,11 +37,11 @@ count_all (suc n) = omega (arith, count_all n)
 
 count_or_le : (f g : ℕ → Bool) (n : ℕ) → count (λ i. f i || g i) n ≤ count f n + count g n
 count_or_le f g zero = omega arith
-count_or_le f g (suc n) = omega (arith, bit_of_or (f n) (g n), count_or_le f g n)
+count_or_le f g (suc n) = grind (arith, count_or_le f g n)
 
 pub count_or : (f g : ℕ → Bool) (n : ℕ) → ((i : ℕ) → i < n → f i ≡ true → g i ≢ true) → count (λ i. f i || g i) n ≡ count f n + count g n
 count_or f g zero h = refl
-count_or f g (suc n) h = omega (arith, bit_apart (f n) (g n) (h n (omega arith)), count_or f g n (λ i l. h i (omega arith)))
+count_or f g (suc n) h = grind (arith, h n (omega arith), count_or f g n (λ i l. h i (omega arith)))
 
 -- nothing passes
 pub count_none : (f : ℕ → Bool) (n : ℕ) → ((i : ℕ) → i < n → f i ≡ false) → count f n ≡ 0
@@ -66,7 +54,7 @@ count_once f zero h = omega arith
 count_once f (suc n) h = ⊎_elim
     (λ (e : f n ≡ true).
     let none : count f n ≡ 0 = count_none f n (λ i l. false_from_ne_true (f i) (λ t. let z : i ≡ n = h i n (omega arith) (omega arith) t e in let w : ⊥ = omega arith in w)) in
-    omega (arith, bit_le_one (f n)))
+    grind arith)
     (λ (e : f n ≡ false). let b : bit (f n) ≡ 0 = ap bit e in omega (arith, count_once f n (λ i j l k. h i j (omega arith) (omega arith))))
     (cases_Bool (f n))
 
