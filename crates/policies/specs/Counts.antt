@@ -1,8 +1,8 @@
 -- How many numbers below a bound pass a test, and who sits in a committee.
 use Rattle.std.specs.Prelude.{◌≡◌, ℕ, zero, suc, ◌+◌, ◌*◌, ◌/◌, ◌%◌, ◌<◌, ◌≤◌, Bool, true, false, cond, ◌&&◌, ◌||◌, ◌==◌, ◌≢◌, nat_eq, nat_le, nat_lt, refl, Decides}
-use Rattle.std.proofs.Common.{sym, ap, ◌∙◌, subst, ⊎_elim, mul-le-mul_left, mul-suc, add-mul, not-suc-le-zero, arith}
+use Rattle.std.proofs.Common.{sym, ap, ◌∙◌, ⊎_elim, mul-le-mul_left, mul-suc, add-mul, not-suc-le-zero, arith}
 use Rattle.std.proofs.Math.Nat.{div-add-mod}
-use Rattle.std.proofs.lemmas.Bool.{cases_order, cases_eq, cases_Bool, false_from_ne_true, eq-eqb, ne_eqb, ltb-true, lt-ltb, le-leb, and_parts, or_left, or_right, both_ways}
+use Rattle.std.proofs.lemmas.Bool.{cases_order, cases_eq, cases_Bool, false_from_ne_true, eq-eqb, ne_eqb, ltb-true, lt-ltb, le-leb, and_parts, both_ways}
 use Rattle.std.proofs.lemmas.Bool.Decides.{Decides-below_or}
 use Rattle.policies.specs.Seats.{count, last_number, committee_of}
 use Rattle.policies.specs.Rotating.{some}
