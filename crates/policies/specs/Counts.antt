@@ -83,14 +83,11 @@ one_fails f (suc n) h = ⊎_elim
 some_decides : (f : ℕ → Bool) (k : ℕ) → Decides (some f k) ((j : ℕ) × (j < k) × (f j ≡ true))
 some_decides f = Decides-below_or f (λ j. f j ≡ true) (some f) (λ j. (λ e. e, λ e. e)) refl (λ _. refl)
 
-pub some_here : (f : ℕ → Bool) (k j : ℕ) → j < k → f j ≡ true → some f k ≡ true
-some_here f k j h e = (some_decides f k).1 (j, h, e)
-
 pub some_at : (f : ℕ → Bool) (k : ℕ) → some f k ≡ true → (j : ℕ) × (j < k) × (f j ≡ true)
 some_at f k = (some_decides f k).0
 
 pub some_none : (f : ℕ → Bool) (k : ℕ) → some f k ≡ false → (j : ℕ) → j < k → f j ≡ false
-some_none f k e j h = false_from_ne_true (f j) (λ t. both_ways (some f k) e (some_here f k j h t))
+some_none f k e j h = false_from_ne_true (f j) (λ t. both_ways (some f k) e ((some_decides f k).1 (j, h, t)))
 
 count_and : (b : Bool) (f : ℕ → Bool) (n c : ℕ) → count f n ≤ c → count (λ i. b && f i) n ≤ bit b * c
 count_and true f n c h = omega arith
