@@ -15,7 +15,7 @@ pub fn is_lawful(b: Batch) -> bool
 }
 
 impl Checked {
-    // None where the numbers are not lawful.
+    // None where the numbers are not lawful. An Option, for the error of a TryFrom would say no more.
     pub fn new(b: Batch) -> Option<Checked>
         ensures { option_map plain result ≡ checked_of b }
     {

@@ -15,6 +15,7 @@ fn count_faulty(marks: &[u8]) -> usize
 }
 
 impl OpenTable {
+    // By hand, for no Default is derived beside a ghost field.
     pub fn new() -> OpenTable
         ensures { open_plain result ≡ empty }
     {
@@ -52,7 +53,7 @@ impl OpenTable {
         if !(1..=7).contains(&t) || self.n < 2 * t + 1 {
             return Err((self, Fault::new(Refusal::WrongThreshold, 0)));
         }
-        if (t as usize) < count_faulty(&self.marks[..self.n as usize]) {
+        if count_faulty(&self.marks[..self.n as usize]) > t as usize {
             return Err((self, Fault::new(Refusal::TooManyFaulty, 0)));
         }
         let OpenTable { n, marks } = self;
