@@ -24,7 +24,7 @@ near n x y e h k =
 
 pub count_same : (f g : ℕ → Bool) (n : ℕ) → ((i : ℕ) → i < n → f i ≡ g i) → count f n ≡ count g n
 count_same f g zero h = refl
-count_same f g (suc n) h = omega (arith, ap bit (h n (omega arith)), count_same f g n (λ i l. h i (omega arith)))
+count_same f g (suc n) h = grind (arith, h n (omega arith), count_same f g n (λ i l. h i (omega arith)))
 
 pub count_mono : (f g : ℕ → Bool) (n : ℕ) → ((i : ℕ) → f i ≡ true → g i ≡ true) → count f n ≤ count g n
 count_mono f g zero h = omega arith
@@ -46,7 +46,7 @@ count_or f g (suc n) h = grind (arith, h n (omega arith), count_or f g n (λ i l
 -- nothing passes
 pub count_none : (f : ℕ → Bool) (n : ℕ) → ((i : ℕ) → i < n → f i ≡ false) → count f n ≡ 0
 count_none f zero h = refl
-count_none f (suc n) h = omega (arith, ap bit (h n (omega arith)), count_none f n (λ i l. h i (omega arith)))
+count_none f (suc n) h = grind (arith, h n (omega arith), count_none f n (λ i l. h i (omega arith)))
 
 -- at most one passes
 pub count_once : (f : ℕ → Bool) (n : ℕ) → ((i j : ℕ) → i < n → j < n → f i ≡ true → f j ≡ true → i ≡ j) → count f n ≤ 1
@@ -62,20 +62,15 @@ count_once f (suc n) h = ⊎_elim
 pub count_is : (a n : ℕ) → a < n → count (λ i. nat_eq a i) n ≡ 1
 count_is a zero h = absurd (not-suc-le-zero h)
 count_is a (suc n) h = ⊎_elim
-    (λ (e : a ≡ n).
-    let b : bit (a == n) ≡ 1 = ap bit (eq-eqb a n e) in
-    omega (arith, count_none (λ i. nat_eq a i) n (λ i l. ne_eqb a i (λ q. let w : ⊥ = omega arith in w))))
-    (λ (e : a ≡ n → ⊥).
-    let b : bit (a == n) ≡ 0 = ap bit (ne_eqb a n e) in
-    let l : a < n = omega (arith, e) in
-    omega (arith, count_is a n l))
+    (λ (e : a ≡ n). grind (arith, count_none (λ i. nat_eq a i) n (λ i l. ne_eqb a i (λ q. let w : ⊥ = omega arith in w))))
+    (λ (e : a ≡ n → ⊥). let l : a < n = omega (arith, e) in grind (arith, count_is a n l))
     (cases_eq a n)
 
 -- fewer than n pass, so one does not
 pub one_fails : (f : ℕ → Bool) (n : ℕ) → count f n < n → (k : ℕ) × (k < n) × (f k ≡ false)
 one_fails f zero h = absurd (not-suc-le-zero h)
 one_fails f (suc n) h = ⊎_elim
-    (λ (e : f n ≡ true). let b : bit (f n) ≡ 1 = ap bit e in let r = one_fails f n (omega arith) in (r.0, omega (arith, r.1), r.2))
+    (λ (e : f n ≡ true). let r = one_fails f n (grind arith) in (r.0, omega (arith, r.1), r.2))
     (λ (e : f n ≡ false). (n, omega arith, e))
     (cases_Bool (f n))
 
@@ -111,5 +106,4 @@ committee_count n c f h =
 
 pub committee_seat : (n c i : ℕ) (f : ℕ → Bool) → committee_of n c f i ≡ true → (i < n) × (f i ≡ true)
 committee_seat n c i f e =
-    let s = and_parts (nat_lt i n) (f i) (and_parts (nat_le c last_number) _ e).1 in
-    (ltb-true i n s.0, s.1)
+    (grind arith, grind arith)

@@ -14,10 +14,7 @@ length_masks zero (suc k) = refl
 length_masks (suc zero) zero = refl
 length_masks (suc (suc n)) zero = length_masks (suc n) zero
 length_masks (suc n) (suc k) =
-    let f : ℕ → ℕ = λ x. 2 ^ n + x in
-    let a = length-append (masks n (suc k)) (map f (masks n k)) in
-    let b = length-map (masks n k) f in
-    omega (arith, length_masks n (suc k), length_masks n k)
+    grind (arith, length-append, length-map, length_masks n (suc k), length_masks n k)
 
 binomial_none : (n : ℕ) → binomial n zero ≡ 1
 binomial_none zero = refl
@@ -52,14 +49,12 @@ holds_high n m i h =
 
 pub mask_low : (n k m : ℕ) → Mask n k m → Mask (suc n) k m
 mask_low n k m h =
-    let e : bit (holds m n) ≡ 0 = ap bit (holds_not n m h.0) in
-    (omega (arith, two-pow-succ n, h.0), omega (arith, h.1))
+    (omega (arith, two-pow-succ n, h.0), grind (arith, holds_not n m h.0, h.1))
 
 pub mask_high : (n k m : ℕ) → Mask n k m → Mask (suc n) (suc k) (2 ^ n + m)
 mask_high n k m h =
-    let e : bit (holds (2 ^ n + m) n) ≡ 1 = ap bit (holds_top n m h.0) in
     let s = count_same (holds (2 ^ n + m)) (holds m) n (holds_high n m) in
-    (omega (arith, two-pow-succ n, h.0), omega (arith, h.1))
+    (omega (arith, two-pow-succ n, h.0), grind (arith, holds_top n m h.0, h.1))
 
 -- what stands at a rank is a mask
 pub sound : (n k r : ℕ) → r < binomial n k → Mask n k (slice_index (masks n k) r)
@@ -88,8 +83,7 @@ rising (suc n) (suc k) i j h l = ⊎_elim
 
 mask_low_back : (n k m : ℕ) → m < 2 ^ n → Mask (suc n) k m → Mask n k m
 mask_low_back n k m l h =
-    let e : bit (holds m n) ≡ 0 = ap bit (holds_not n m l) in
-    (l, omega (arith, h.1))
+    (l, grind (arith, holds_not n m l, h.1))
 
 -- a number of n + 1 bits from 2 ^ n on has bit n
 bit_top : (n m : ℕ) → m < 2 ^ suc n → 2 ^ n ≤ m → bit (holds m n) ≡ 1
