@@ -1,8 +1,8 @@
 -- How many numbers below a bound pass a test, and who sits in a committee.
-use Rattle.std.specs.Prelude.{◌≡◌, ℕ, zero, suc, ◌+◌, ◌*◌, ◌/◌, ◌%◌, ◌<◌, ◌≤◌, Bool, true, false, cond, ◌&&◌, ◌||◌, ◌==◌, ◌≢◌, nat_eq, nat_le, nat_lt, refl, Decides}
+use Rattle.std.specs.Prelude.{◌≡◌, ℕ, zero, suc, ◌+◌, ◌*◌, ◌/◌, ◌%◌, ◌<◌, ◌≤◌, Bool, true, false, cond, ◌&&◌, ◌||◌, ◌≢◌, nat_eq, nat_lt, refl, Decides}
 use Rattle.std.proofs.Common.{sym, ap, ◌∙◌, ⊎_elim, mul-le-mul_left, mul-suc, add-mul, not-suc-le-zero, arith}
 use Rattle.std.proofs.Math.Nat.{div-add-mod}
-use Rattle.std.proofs.lemmas.Bool.{cases_order, cases_eq, cases_Bool, false_from_ne_true, eq-eqb, ne_eqb, ltb-true, lt-ltb, le-leb, and_parts, both_ways}
+use Rattle.std.proofs.lemmas.Bool.{cases_order, cases_eq, cases_Bool, false_from_ne_true, ne_eqb, lt-ltb, le-leb, both_ways}
 use Rattle.std.proofs.lemmas.Bool.Decides.{Decides-below_or}
 use Rattle.policies.specs.Seats.{count, last_number, committee_of}
 use Rattle.policies.specs.Rotating.{some}
@@ -55,7 +55,7 @@ count_once f (suc n) h = ⊎_elim
     (λ (e : f n ≡ true).
     let none : count f n ≡ 0 = count_none f n (λ i l. false_from_ne_true (f i) (λ t. let z : i ≡ n = h i n (omega arith) (omega arith) t e in let w : ⊥ = omega arith in w)) in
     grind arith)
-    (λ (e : f n ≡ false). let b : bit (f n) ≡ 0 = ap bit e in omega (arith, count_once f n (λ i j l k. h i j (omega arith) (omega arith))))
+    (λ (e : f n ≡ false). grind (arith, count_once f n (λ i j l k. h i j (omega arith) (omega arith))))
     (cases_Bool (f n))
 
 -- exactly one number is a
@@ -85,8 +85,7 @@ pub some_none : (f : ℕ → Bool) (k : ℕ) → some f k ≡ false → (j : ℕ
 some_none f k e j h = false_from_ne_true (f j) (λ t. both_ways (some f k) e ((some_decides f k).1 (j, h, t)))
 
 count_and : (b : Bool) (f : ℕ → Bool) (n c : ℕ) → count f n ≤ c → count (λ i. b && f i) n ≤ bit b * c
-count_and true f n c h = omega arith
-count_and false f n c h = omega (arith, count_none (λ i. false) n (λ _ _. refl))
+count_and b f n c h = grind (arith, count_none (λ i. false) n (λ _ _. refl))
 
 -- each of k tests is passed at most c times, and only those that w takes count
 pub count_picked : (f : ℕ → ℕ → Bool) (w : ℕ → Bool) (n k c : ℕ) → ((j : ℕ) → count (f j) n ≤ c) → count (λ i. some (λ j. w j && f j i) k) n ≤ count w k * c
