@@ -1,8 +1,9 @@
 -- How many numbers below a bound pass a test, and who sits in a committee.
-use Rattle.std.specs.Prelude.{◌≡◌, ℕ, zero, suc, ◌+◌, ◌*◌, ◌/◌, ◌%◌, ◌<◌, ◌≤◌, Bool, true, false, cond, ◌&&◌, ◌||◌, ◌==◌, ◌≢◌, nat_eq, nat_le, nat_lt, refl}
-use Rattle.std.proofs.Common.{sym, ap, ◌∙◌, subst, ⊎_elim, mul-le-mul_left, mul-suc, add-mul, not-suc-le-zero, arith}
+use Rattle.std.specs.Prelude.{◌≡◌, ℕ, zero, suc, ◌+◌, ◌*◌, ◌/◌, ◌%◌, ◌<◌, ◌≤◌, Bool, true, false, cond, ◌&&◌, ◌||◌, ◌≢◌, nat_eq, nat_lt, refl, Decides}
+use Rattle.std.proofs.Common.{sym, ap, ◌∙◌, ⊎_elim, mul-le-mul_left, mul-suc, add-mul, not-suc-le-zero, arith}
 use Rattle.std.proofs.Math.Nat.{div-add-mod}
-use Rattle.std.proofs.lemmas.Bool.{cases_order, cases_eq, cases_Bool, eq-eqb, ne_eqb, ltb-true, lt-ltb, le-leb, and_parts, or_left, or_right, both_ways}
+use Rattle.std.proofs.lemmas.Bool.{cases_order, cases_eq, cases_Bool, false_from_ne_true, ne_eqb, lt-ltb, le-leb, both_ways}
+use Rattle.std.proofs.lemmas.Bool.Decides.{Decides-below_or}
 use Rattle.policies.specs.Seats.{count, last_number, committee_of}
 use Rattle.policies.specs.Rotating.{some}
 
@@ -21,31 +22,13 @@ near n x y e h k =
     (λ (l : y / n < x / n). let p = mul-le-mul_left n l in let s = mul-suc n (y / n) in let z : ⊥ = omega arith in absurd z))
     (cases_order (x / n) (y / n))
 
-bit_le_one : (b : Bool) → bit b ≤ 1
-bit_le_one true = omega arith
-bit_le_one false = omega arith
-
-bit_of_or : (x y : Bool) → bit (x || y) ≤ bit x + bit y
-bit_of_or true y = omega arith
-bit_of_or false y = omega arith
-
-bit_apart : (x y : Bool) → (x ≡ true → y ≢ true) → bit (x || y) ≡ bit x + bit y
-bit_apart true true h = absurd (h refl refl)
-bit_apart true false h = refl
-bit_apart false true h = refl
-bit_apart false false h = refl
-
-bit_mono : (x y : Bool) → (x ≡ true → y ≡ true) → bit x ≤ bit y
-bit_mono true y h = omega (arith, ap bit (h refl))
-bit_mono false y h = omega arith
-
 pub count_same : (f g : ℕ → Bool) (n : ℕ) → ((i : ℕ) → i < n → f i ≡ g i) → count f n ≡ count g n
 count_same f g zero h = refl
-count_same f g (suc n) h = omega (arith, ap bit (h n (omega arith)), count_same f g n (λ i l. h i (omega arith)))
+count_same f g (suc n) h = grind (arith, h n (omega arith), count_same f g n (λ i l. h i (omega arith)))
 
 pub count_mono : (f g : ℕ → Bool) (n : ℕ) → ((i : ℕ) → f i ≡ true → g i ≡ true) → count f n ≤ count g n
 count_mono f g zero h = omega arith
-count_mono f g (suc n) h = omega (arith, bit_mono (f n) (g n) (h n), count_mono f g n h)
+count_mono f g (suc n) h = grind (arith, h n, count_mono f g n h)
 
 -- everything passes
 pub count_all : (n : ℕ) → count (λ _. true) n ≡ n
@@ -54,73 +37,55 @@ count_all (suc n) = omega (arith, count_all n)
 
 count_or_le : (f g : ℕ → Bool) (n : ℕ) → count (λ i. f i || g i) n ≤ count f n + count g n
 count_or_le f g zero = omega arith
-count_or_le f g (suc n) = omega (arith, bit_of_or (f n) (g n), count_or_le f g n)
+count_or_le f g (suc n) = grind (arith, count_or_le f g n)
 
 pub count_or : (f g : ℕ → Bool) (n : ℕ) → ((i : ℕ) → i < n → f i ≡ true → g i ≢ true) → count (λ i. f i || g i) n ≡ count f n + count g n
 count_or f g zero h = refl
-count_or f g (suc n) h = omega (arith, bit_apart (f n) (g n) (h n (omega arith)), count_or f g n (λ i l. h i (omega arith)))
+count_or f g (suc n) h = grind (arith, h n (omega arith), count_or f g n (λ i l. h i (omega arith)))
 
 -- nothing passes
 pub count_none : (f : ℕ → Bool) (n : ℕ) → ((i : ℕ) → i < n → f i ≡ false) → count f n ≡ 0
 count_none f zero h = refl
-count_none f (suc n) h = omega (arith, ap bit (h n (omega arith)), count_none f n (λ i l. h i (omega arith)))
-
-not_true : (b : Bool) → (b ≢ true) → b ≡ false
-not_true true h = absurd (h refl)
-not_true false h = refl
+count_none f (suc n) h = grind (arith, h n (omega arith), count_none f n (λ i l. h i (omega arith)))
 
 -- at most one passes
 pub count_once : (f : ℕ → Bool) (n : ℕ) → ((i j : ℕ) → i < n → j < n → f i ≡ true → f j ≡ true → i ≡ j) → count f n ≤ 1
 count_once f zero h = omega arith
 count_once f (suc n) h = ⊎_elim
     (λ (e : f n ≡ true).
-    let none : count f n ≡ 0 = count_none f n (λ i l. not_true (f i) (λ t. let z : i ≡ n = h i n (omega arith) (omega arith) t e in let w : ⊥ = omega arith in w)) in
-    omega (arith, bit_le_one (f n)))
-    (λ (e : f n ≡ false). let b : bit (f n) ≡ 0 = ap bit e in omega (arith, count_once f n (λ i j l k. h i j (omega arith) (omega arith))))
+    let none : count f n ≡ 0 = count_none f n (λ i l. false_from_ne_true (f i) (λ t. let z : i ≡ n = h i n (omega arith) (omega arith) t e in let w : ⊥ = omega arith in w)) in
+    grind arith)
+    (λ (e : f n ≡ false). grind (arith, count_once f n (λ i j l k. h i j (omega arith) (omega arith))))
     (cases_Bool (f n))
 
 -- exactly one number is a
 pub count_is : (a n : ℕ) → a < n → count (λ i. nat_eq a i) n ≡ 1
 count_is a zero h = absurd (not-suc-le-zero h)
 count_is a (suc n) h = ⊎_elim
-    (λ (e : a ≡ n).
-    let b : bit (a == n) ≡ 1 = ap bit (eq-eqb a n e) in
-    omega (arith, count_none (λ i. nat_eq a i) n (λ i l. ne_eqb a i (λ q. let w : ⊥ = omega arith in w))))
-    (λ (e : a ≡ n → ⊥).
-    let b : bit (a == n) ≡ 0 = ap bit (ne_eqb a n e) in
-    let l : a < n = omega (arith, e) in
-    omega (arith, count_is a n l))
+    (λ (e : a ≡ n). grind (arith, count_none (λ i. nat_eq a i) n (λ i l. ne_eqb a i (λ q. let w : ⊥ = omega arith in w))))
+    (λ (e : a ≡ n → ⊥). let l : a < n = omega (arith, e) in grind (arith, count_is a n l))
     (cases_eq a n)
 
 -- fewer than n pass, so one does not
 pub one_fails : (f : ℕ → Bool) (n : ℕ) → count f n < n → (k : ℕ) × (k < n) × (f k ≡ false)
 one_fails f zero h = absurd (not-suc-le-zero h)
 one_fails f (suc n) h = ⊎_elim
-    (λ (e : f n ≡ true). let b : bit (f n) ≡ 1 = ap bit e in let r = one_fails f n (omega arith) in (r.0, omega (arith, r.1), r.2))
+    (λ (e : f n ≡ true). let r = one_fails f n (grind arith) in (r.0, omega (arith, r.1), r.2))
     (λ (e : f n ≡ false). (n, omega arith, e))
     (cases_Bool (f n))
 
--- a test that some of k tests passes
-pub some_here : (f : ℕ → Bool) (k j : ℕ) → j < k → f j ≡ true → some f k ≡ true
-some_here f zero j h e = absurd (not-suc-le-zero h)
-some_here f (suc k) j h e = ⊎_elim
-    (λ (q : j ≡ k). or_left (f k) (some f k) (subst (λ z. f z ≡ true) q e))
-    (λ (q : j ≡ k → ⊥). let l : j < k = omega (arith, q) in or_right (f k) (some f k) (some_here f k j l e))
-    (cases_eq j k)
+-- some of k tests passes
+some_decides : (f : ℕ → Bool) (k : ℕ) → Decides (some f k) ((j : ℕ) × (j < k) × (f j ≡ true))
+some_decides f = Decides-below_or f (λ j. f j ≡ true) (some f) (λ j. (λ e. e, λ e. e)) refl (λ _. refl)
 
 pub some_at : (f : ℕ → Bool) (k : ℕ) → some f k ≡ true → (j : ℕ) × (j < k) × (f j ≡ true)
-some_at f zero e = absurd (both_ways false refl e)
-some_at f (suc k) e = ⊎_elim
-    (λ (q : f k ≡ true). (k, omega arith, q))
-    (λ (q : f k ≡ false). let r = some_at f k (ap (λ b. b || some f k) (sym q) ∙ e) in (r.0, omega (arith, r.1), r.2))
-    (cases_Bool (f k))
+some_at f k = (some_decides f k).0
 
 pub some_none : (f : ℕ → Bool) (k : ℕ) → some f k ≡ false → (j : ℕ) → j < k → f j ≡ false
-some_none f k e j h = not_true (f j) (λ t. both_ways (some f k) e (some_here f k j h t))
+some_none f k e j h = false_from_ne_true (f j) (λ t. both_ways (some f k) e ((some_decides f k).1 (j, h, t)))
 
 count_and : (b : Bool) (f : ℕ → Bool) (n c : ℕ) → count f n ≤ c → count (λ i. b && f i) n ≤ bit b * c
-count_and true f n c h = omega arith
-count_and false f n c h = omega (arith, count_none (λ i. false) n (λ _ _. refl))
+count_and b f n c h = grind (arith, count_none (λ i. false) n (λ _ _. refl))
 
 -- each of k tests is passed at most c times, and only those that w takes count
 pub count_picked : (f : ℕ → ℕ → Bool) (w : ℕ → Bool) (n k c : ℕ) → ((j : ℕ) → count (f j) n ≤ c) → count (λ i. some (λ j. w j && f j i) k) n ≤ count w k * c
@@ -140,5 +105,4 @@ committee_count n c f h =
 
 pub committee_seat : (n c i : ℕ) (f : ℕ → Bool) → committee_of n c f i ≡ true → (i < n) × (f i ≡ true)
 committee_seat n c i f e =
-    let s = and_parts (nat_lt i n) (f i) (and_parts (nat_le c last_number) _ e).1 in
-    (ltb-true i n s.0, s.1)
+    (grind arith, grind arith)

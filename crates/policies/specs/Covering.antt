@@ -5,7 +5,7 @@ use Rattle.std.proofs.Math.Nat.{div-add-mod, mul-add-mod_self_left, zero-div}
 use Rattle.std.proofs.lemmas.Bool.{cases_lt, cases_eq, cases_Bool, both_ways}
 use Rattle.policies.specs.Seats.{count, Covers, last_number}
 use Rattle.policies.specs.Masks.{masks, binomial, holds, Mask, mask_of, full_turn, full_seats}
-use Rattle.policies.specs.Counts.{bit, committee_count, committee_seat}
+use Rattle.policies.specs.Counts.{committee_count, committee_seat}
 use Rattle.policies.specs.Pascal.{binomial_small}
 use Rattle.policies.specs.MasksLemmas.{holds_not, holds_high, mask_low, mask_high, sound, whole}
 
@@ -34,8 +34,7 @@ apart bad n zero h = (0, zero_mask n, λ i _ e _. both_ways _ (ap (λ z. nat_eq 
 apart bad zero (suc k) h = let z : ⊥ = omega arith in absurd z
 apart bad (suc n) (suc k) h = ⊎_elim
     (λ (b : bad n ≡ true).
-    let one : bit (bad n) ≡ 1 = ap bit b in
-    let r = apart bad n (suc k) (omega arith) in (
+    let r = apart bad n (suc k) (grind arith) in (
       r.0,
       mask_low n (suc k) r.0 r.1,
       λ i l e f. ⊎_elim
@@ -44,8 +43,7 @@ apart bad (suc n) (suc k) h = ⊎_elim
           (cases_eq i n),
     ))
     (λ (b : bad n ≡ false).
-    let none : bit (bad n) ≡ 0 = ap bit b in
-    let r = apart bad n k (omega arith) in (
+    let r = apart bad n k (grind arith) in (
       2 ^ n + r.0,
       mask_high n k r.0 r.1,
       λ i l e f. ⊎_elim

@@ -1,7 +1,7 @@
 -- The list of masks: how long it is, what stands where, that it rises and that it is whole.
 use Rattle.std.specs.Prelude.{◌≡◌, ℕ, zero, suc, ◌+◌, ◌-◌, ◌*◌, ◌/◌, ◌%◌, ◌^◌, ◌<◌, ◌≤◌, true, false, [], ◌∷◌, map, length, nat_eq, slice_index, refl}
 use Rattle.std.proofs.Common.{sym, ap, ◌∙◌, subst, ⊎_elim, pow-suc, not-suc-le-zero, arith, length-append, pow_pos, pow-add}
-use Rattle.std.proofs.Math.Nat.{div-eq_of_lt, add-div_left, mul-add-div, mul-add-mod_self_right}
+use Rattle.std.proofs.Math.Nat.{div-eq_of_lt, add-div_left, mul-add-div, mul-add-mod_self_right, two-pow-succ}
 use Rattle.std.proofs.lemmas.List.{get_or_append_left, get_or-append_right, get_or-map, length-map}
 use Rattle.std.proofs.lemmas.Bool.{cases_lt}
 use Rattle.policies.specs.Seats.{count}
@@ -14,10 +14,7 @@ length_masks zero (suc k) = refl
 length_masks (suc zero) zero = refl
 length_masks (suc (suc n)) zero = length_masks (suc n) zero
 length_masks (suc n) (suc k) =
-    let f : ℕ → ℕ = λ x. 2 ^ n + x in
-    let a = length-append (masks n (suc k)) (map f (masks n k)) in
-    let b = length-map (masks n k) f in
-    omega (arith, length_masks n (suc k), length_masks n k)
+    grind (arith, length-append, length-map, length_masks n (suc k), length_masks n k)
 
 binomial_none : (n : ℕ) → binomial n zero ≡ 1
 binomial_none zero = refl
@@ -32,9 +29,6 @@ high n k r h l =
     ∙ get_or-map (λ x. 2 ^ n + x) (masks n k) (r - binomial n (suc k)) 0 0 (omega (arith, length_masks n k))
 
 -- bits
-
-twice : (n : ℕ) → 2 ^ suc n ≡ 2 ^ n + 2 ^ n
-twice n = pow-suc 2 n ∙ omega arith
 
 -- a number below 2 ^ n has no bit n
 pub holds_not : (n m : ℕ) → m < 2 ^ n → holds m n ≡ false
@@ -55,14 +49,12 @@ holds_high n m i h =
 
 pub mask_low : (n k m : ℕ) → Mask n k m → Mask (suc n) k m
 mask_low n k m h =
-    let e : bit (holds m n) ≡ 0 = ap bit (holds_not n m h.0) in
-    (omega (arith, twice n, h.0), omega (arith, h.1))
+    (omega (arith, two-pow-succ n, h.0), grind (arith, holds_not n m h.0, h.1))
 
 pub mask_high : (n k m : ℕ) → Mask n k m → Mask (suc n) (suc k) (2 ^ n + m)
 mask_high n k m h =
-    let e : bit (holds (2 ^ n + m) n) ≡ 1 = ap bit (holds_top n m h.0) in
     let s = count_same (holds (2 ^ n + m)) (holds m) n (holds_high n m) in
-    (omega (arith, twice n, h.0), omega (arith, h.1))
+    (omega (arith, two-pow-succ n, h.0), grind (arith, holds_top n m h.0, h.1))
 
 -- what stands at a rank is a mask
 pub sound : (n k r : ℕ) → r < binomial n k → Mask n k (slice_index (masks n k) r)
@@ -91,20 +83,19 @@ rising (suc n) (suc k) i j h l = ⊎_elim
 
 mask_low_back : (n k m : ℕ) → m < 2 ^ n → Mask (suc n) k m → Mask n k m
 mask_low_back n k m l h =
-    let e : bit (holds m n) ≡ 0 = ap bit (holds_not n m l) in
-    (l, omega (arith, h.1))
+    (l, grind (arith, holds_not n m l, h.1))
 
 -- a number of n + 1 bits from 2 ^ n on has bit n
 bit_top : (n m : ℕ) → m < 2 ^ suc n → 2 ^ n ≤ m → bit (holds m n) ≡ 1
 bit_top n m h l =
     let e : 2 ^ n + (m - 2 ^ n) ≡ m = omega arith in
-    ap bit (ap (λ z. holds z n) (sym e) ∙ holds_top n (m - 2 ^ n) (omega (arith, twice n)))
+    ap bit (ap (λ z. holds z n) (sym e) ∙ holds_top n (m - 2 ^ n) (omega (arith, two-pow-succ n)))
 
 mask_high_back : (n k m : ℕ) → 2 ^ n ≤ m → Mask (suc n) (suc k) m → Mask n k (m - 2 ^ n)
 mask_high_back n k m l h =
     let e : 2 ^ n + (m - 2 ^ n) ≡ m = omega arith in
     let s : count (holds m) n ≡ count (holds (m - 2 ^ n)) n = ap (λ z. count (holds z) n) (sym e) ∙ count_same (holds (2 ^ n + (m - 2 ^ n))) (holds (m - 2 ^ n)) n (holds_high n (m - 2 ^ n)) in
-    (omega (arith, twice n, h.0), omega (arith, h.1, bit_top n m h.0 l))
+    (omega (arith, two-pow-succ n, h.0), omega (arith, h.1, bit_top n m h.0 l))
 
 -- the masks with bit n stand past those without it
 past : (n k r : ℕ) → r < binomial n k → slice_index (masks (suc n) (suc k)) (binomial n (suc k) + r) ≡ 2 ^ n + slice_index (masks n k) r

@@ -16,6 +16,7 @@ pub enum AnyPolicy {
     Full(Full),
 }
 
+// A match in each method: a function that hands out the one chosen as a `dyn` is refused.
 impl Policy for AnyPolicy {
     ghost stations = { any_stations };
 

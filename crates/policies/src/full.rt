@@ -11,6 +11,7 @@ ghost use Rattle.std.proofs.Common.{rules};
 use super::policy::{LAST, Policy};
 use super::table::Locked;
 
+// n and t bare, as in a table: a struct of the two would only lengthen the clauses, which say p.n and p.t.
 #[derive(Clone, Copy)]
 pub struct Full {
     n: u32,
@@ -40,45 +41,52 @@ const PASCAL: [[u32; 9]; 17] = [
     [1, 16, 120, 560, 1820, 4368, 8008, 11440, 12870],
 ];
 
-fn ways(n: u32, k: u32) -> u32
-    requires small { n ≤ 16 }
-    requires few { k ≤ 8 }
-    ensures { result ≡ binomial n k }
-{
-    PASCAL[n as usize][k as usize]
+// The sets of so many ones among n bits, as masks in rising order.
+#[derive(Clone, Copy)]
+struct Subsets {
+    n: u32,
+    ones: u32,
+    ghost small: { n ≤ 16 },
+    ghost few: { ones ≤ 8 },
 }
 
-// The mask of n bits with the given ones that has the given rank. From the top bit down, a rank past
-// all the masks without the bit is that of a mask with it.
-fn mask(n: u32, ones: u32, rank: u32) -> u32
-    requires small { n ≤ 16 }
-    requires few { ones ≤ 8 }
-    requires below { rank < binomial n ones }
-    ensures { result ≡ slice_index (masks n ones) rank }
-{
-    let mut left = ones;
-    let mut rest = rank;
-    let mut found: u32 = 0;
-    for b in (0..n).rev() {
-        let without = ways(b, left);
-        if rest >= without {
-            found += 1 << b;
-            rest -= without;
-            left -= 1;
-        }
+impl Subsets {
+    // How many there are.
+    #[tactic(auto, using(crate::specs::Pascal::read))]
+    fn count(self) -> u32
+        ensures { result ≡ binomial self.n self.ones }
+    {
+        PASCAL[self.n as usize][self.ones as usize]
     }
-    found
-}
 
-// Mask number c, counted round.
-fn numbered(n: u32, ones: u32, c: u32) -> u32
-    requires small { n ≤ 16 }
-    requires few { ones ≤ 8 }
-    requires room { ones ≤ n }
-    ensures value { result ≡ slice_index (masks n ones) (c % binomial n ones) }
-    ensures listed { Listed n ones (masks n ones) }
-{
-    mask(n, ones, c % ways(n, ones))
+    // The mask of the given rank. From the top bit down, a rank past all the masks without the bit is
+    // that of a mask with it. A loop, for a fold would carry the three numbers as a tuple.
+    fn ranked(self, rank: u32) -> u32
+        requires { rank < binomial self.n self.ones }
+        ensures { result ≡ slice_index (masks self.n self.ones) rank }
+    {
+        let mut left = self.ones;
+        let mut rest = rank;
+        let mut found: u32 = 0;
+        for b in (0..self.n).rev() {
+            let without = Subsets { n: b, ones: left }.count();
+            if rest >= without {
+                found += 1 << b;
+                rest -= without;
+                left -= 1;
+            }
+        }
+        found
+    }
+
+    // Mask number c, counted round.
+    #[tactic(auto, using(crate::specs::Covering::binomial_pos))]
+    fn numbered(self, c: u32) -> u32
+        requires { self.ones ≤ self.n }
+        ensures { result ≡ slice_index (masks self.n self.ones) (c % binomial self.n self.ones) }
+    {
+        self.ranked(c % self.count())
+    }
 }
 
 fn has(mask: u32, i: u32) -> bool
@@ -99,12 +107,23 @@ impl Full {
         }
     }
 
+    // Its committees, as sets of stations.
+    fn committees(&self) -> Subsets
+        ensures stations { result.n ≡ self.now.n }
+        ensures members { result.ones ≡ self.now.t + 1 }
+    {
+        Subsets {
+            n: self.n,
+            ones: self.t + 1,
+        }
+    }
+
     // Committee c as a mask, bit i for station i: number c mod W of the masks in rising order.
     pub fn committee(&self, c: u32) -> u32
         ensures value { result ≡ mask_of self.now.n self.now.t c }
         ensures listed { Listed self.now.n (self.now.t + 1) (masks self.now.n (self.now.t + 1)) }
     {
-        numbered(self.n, self.t + 1, c)
+        self.committees().numbered(c)
     }
 }
 
@@ -138,7 +157,7 @@ impl Policy for Full {
     }
 
     fn count_turn(&self) -> u32 {
-        ways(self.n, self.t + 1)
+        self.committees().count()
     }
 
     fn last(&self) -> u32 {

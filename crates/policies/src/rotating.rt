@@ -14,6 +14,7 @@ use base::fault::Fault;
 use base::refusal::Refusal;
 
 // A turn goes round the stations at most once, so that each sits in at most t + 1 of its committees.
+// n and t bare, as in a table: a struct of the two would only lengthen the clauses, which say p.n and p.t.
 #[derive(Clone, Copy)]
 pub struct Rotating {
     n: u32,
@@ -29,12 +30,7 @@ fn in_row(n: u32, t: u32, c: u32, i: u32) -> bool
     requires low { c ≤ last_number }
     ensures { result ≡ in_row n t c i }
 {
-    for j in 0..t + 1 {
-        if (c + j) % n == i {
-            return true;
-        }
-    }
-    false
+    (0..t + 1).any(|j| (c + j) % n == i)
 }
 
 impl Rotating {

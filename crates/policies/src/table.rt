@@ -2,6 +2,7 @@
 ghost use Rattle.std.specs.Prelude.{◌≡◌, ◌≤◌, true};
 ghost use Rattle.policies.specs.Sound.{sound};
 
+// An array with its count beside it, and plain numbers as marks: a table takes no heap, and moves as it is.
 // Stations 0 to n - 1 have been added; the mark of a station is 0 for correct and 1 for faulty.
 #[derive(Drop)]
 pub struct OpenTable {

@@ -24,6 +24,7 @@ impl Rule for AnyRule {
     ghost fits = { Prim.search rules };
 
     fn work(&self, carry: u32, b: Checked) -> Outcome {
+        // A match: to make a `dyn` of the one chosen would take this same match.
         match self {
             AnyRule::Oil => Oil.work(carry, b),
             AnyRule::Levy => Levy.work(carry, b),

@@ -11,22 +11,14 @@ use base::book::Batch;
 pub fn is_lawful(b: Batch) -> bool
     ensures { result ≡ lawful b }
 {
-    b.grower >= 1
-        && b.grower <= 9_999_999
-        && b.fruit >= 1
-        && b.fruit <= 30_000
-        && b.oil <= 9_000_000
+    (1..=9_999_999).contains(&b.grower) && (1..=30_000).contains(&b.fruit) && b.oil <= 9_000_000
 }
 
 impl Checked {
-    // None where the numbers are not lawful.
+    // None where the numbers are not lawful. An Option, for the error of a TryFrom would say no more.
     pub fn new(b: Batch) -> Option<Checked>
         ensures { option_map plain result ≡ checked_of b }
     {
-        if is_lawful(b) {
-            Some(Checked::make(b))
-        } else {
-            None
-        }
+        is_lawful(b).then(|| Checked::make(b))
     }
 }

@@ -23,6 +23,7 @@ pub fn work_out<R: Rule>(rule: &R, carry: u32, b: Checked) -> Entry
 }
 
 // Books the intake from carry 0, up to the first unlawful batch.
+// A `for` with `?`, no chain: each entry hangs on the carry before it, and a push may run out of memory.
 pub fn clerk<R: Rule>(heap: Global, rule: &R, intake: &[Batch]) -> Result<Vec<Entry>, AllocError>
     ensures { IfOk result (λ v. v.items ≡ clerk_book lawful (R.Rule.outcome rule.now) 0 intake.now) }
 {

@@ -4,7 +4,7 @@ ghost use Rattle.seals.specs.Any.{any_tag};
 ghost use Rattle.std.proofs.Common.{rules};
 
 use super::keyed::Keyed;
-use super::seal::{Check, Sealing};
+use super::seal::Tagging;
 use super::sheet::Sheet;
 
 #[derive(Drop)]
@@ -13,24 +13,16 @@ pub enum AnySeal {
     BySheet(Sheet),
 }
 
-impl Check for AnySeal {
-    ghost tag = { any_tag };
+impl Tagging for AnySeal {
+    ghost tagged = { any_tag };
 
-    ghost small = { Prim.search rules };
+    ghost fits = { Prim.search rules };
 
-    fn check(&self, station: u8, statement: &[u8; 24], shown: u64) -> bool {
+    fn tag_of(&self, station: u8, statement: &[u8; 24]) -> u64 {
+        // A match: to make a `dyn` of the one chosen would take this same match.
         match self {
-            AnySeal::ByKeys(keyed) => keyed.check(station, statement, shown),
-            AnySeal::BySheet(sheet) => sheet.check(station, statement, shown),
-        }
-    }
-}
-
-impl Sealing for AnySeal {
-    fn seal(&self, station: u8, statement: &[u8; 24]) -> u64 {
-        match self {
-            AnySeal::ByKeys(keyed) => keyed.seal(station, statement),
-            AnySeal::BySheet(sheet) => sheet.seal(station, statement),
+            AnySeal::ByKeys(keyed) => keyed.tag_of(station, statement),
+            AnySeal::BySheet(sheet) => sheet.tag_of(station, statement),
         }
     }
 }

@@ -1,9 +1,10 @@
 // The keyed seal: a key for each station, folded over the three words of a statement.
-ghost use Rattle.std.specs.Prelude.{◌≡◌, ◌≤◌};
-ghost use Rattle.seals.specs.Keyed.{keyed_tag, mix, word};
+ghost use Rattle.std.specs.Prelude.{◌≡◌, fold};
+ghost use Rattle.std.specs.Int.{w64, from_be_bytes};
+ghost use Rattle.seals.specs.Keyed.{keyed_tag, mix};
 ghost use Rattle.std.proofs.Common.{rules};
 
-use super::seal::{Check, Sealing};
+use super::seal::Tagging;
 
 #[derive(Clone, Copy)]
 pub struct Keyed {
@@ -16,46 +17,31 @@ fn mixed(key: u64, h: u64, w: u64) -> u64
     (h ^ w).rotate_left(13).wrapping_add(key)
 }
 
-fn word_at(s: &[u8; 24], p: usize) -> u64
-    requires { p ≤ 16 }
-    ensures { result ≡ word s.now p }
+// One word after the other is mixed in.
+fn folded(key: u64, words: &[[u8; 8]]) -> u64
+    ensures { result ≡ fold (λ h w. mix key h (from_be_bytes w64 w)) key words.now }
 {
-    u64::from_be_bytes([
-        s[p],
-        s[p + 1],
-        s[p + 2],
-        s[p + 3],
-        s[p + 4],
-        s[p + 5],
-        s[p + 6],
-        s[p + 7],
-    ])
+    words
+        .iter()
+        .fold(key, |h, w| mixed(key, h, u64::from_be_bytes(*w)))
 }
 
-fn tag_of(keys: &[u64; 16], station: u8, s: &[u8; 24]) -> u64
-    ensures { result ≡ keyed_tag keys.now station s.now }
+fn tag_of(keys: &[u64; 16], station: u8, statement: &[u8; 24]) -> u64
+    ensures { result ≡ keyed_tag keys.now station statement.now }
 {
-    if station >= 16 {
+    let Some(key) = keys.get(usize::from(station)) else {
         return 0;
-    }
-    let key = keys[station as usize];
-    let first = mixed(key, key, word_at(s, 0));
-    let second = mixed(key, first, word_at(s, 8));
-    mixed(key, second, word_at(s, 16))
+    };
+    let (words, _) = statement.as_chunks();
+    folded(*key, words)
 }
 
-impl Check for Keyed {
-    ghost tag = { λ k i l. keyed_tag k.keys i l };
+impl Tagging for Keyed {
+    ghost tagged = { λ k i l. keyed_tag k.keys i l };
 
-    ghost small = { Prim.search rules };
+    ghost fits = { Prim.search rules };
 
-    fn check(&self, station: u8, statement: &[u8; 24], shown: u64) -> bool {
-        shown == tag_of(&self.keys, station, statement)
-    }
-}
-
-impl Sealing for Keyed {
-    fn seal(&self, station: u8, statement: &[u8; 24]) -> u64 {
+    fn tag_of(&self, station: u8, statement: &[u8; 24]) -> u64 {
         tag_of(&self.keys, station, statement)
     }
 }

@@ -17,3 +17,29 @@ pub trait Sealing: Check {
     fn seal(&self, station: u8, statement: &[u8; 24]) -> u64
         ensures { result ≡ Self.Check.tag self.now station statement.now };
 }
+
+// What a seal of this crate has to say of itself: its tags. Checking and sealing follow.
+pub(crate) trait Tagging {
+    ghost tagged: { Self → ℕ → List ℕ → ℕ };
+
+    fn tag_of(&self, station: u8, statement: &[u8; 24]) -> u64
+        ensures { result ≡ tagged self.now station statement.now };
+
+    ghost fits: { (s : Self) (i : ℕ) (l : List ℕ) → i < 16 → length l ≡ 24 → tagged s i l < 2 ^ 64 };
+}
+
+impl<T: Tagging> Check for T {
+    ghost tag = { T.tagged };
+
+    ghost small = { T.fits };
+
+    fn check(&self, station: u8, statement: &[u8; 24], shown: u64) -> bool {
+        shown == self.tag_of(station, statement)
+    }
+}
+
+impl<T: Tagging> Sealing for T {
+    fn seal(&self, station: u8, statement: &[u8; 24]) -> u64 {
+        self.tag_of(station, statement)
+    }
+}

@@ -3,7 +3,7 @@ ghost use Rattle.std.specs.Prelude.{◌≡◌, ◌≤◌, slice_index};
 ghost use Rattle.seals.specs.Sheet.{sheet_tag, picked, xors};
 ghost use Rattle.std.proofs.Common.{rules};
 
-use super::seal::{Check, Sealing};
+use super::seal::Tagging;
 
 // The words of station s begin at place 256 s; a word beyond the sheet is 0.
 #[derive(Drop)]
@@ -14,43 +14,31 @@ pub struct Sheet {
 fn word(words: &[u64], place: usize) -> u64
     ensures { result ≡ slice_index words.now place }
 {
-    if place < words.len() { words[place] } else { 0 }
-}
-
-fn tag_of(words: &[u64], station: u8, statement: &[u8; 24]) -> u64
-    ensures { result ≡ sheet_tag words.now station statement.now }
-{
-    if station >= 16 {
-        return 0;
-    }
-    mixed(words, 256 * station as usize, statement)
+    words.get(place).copied().unwrap_or(0)
 }
 
 // The xor of the words that the bytes of a statement pick, each turned left by its byte's place.
+#[tactic(auto, unfolding(crate::specs::Sheet::xors))]
 fn mixed(words: &[u64], first: usize, statement: &[u8; 24]) -> u64
     requires { first ≤ 4096 }
     ensures { result ≡ xors (picked words.now first statement.now) 24 }
 {
     let mut tag = 0;
-    for p in 0..24 {
-        let place = first + statement[p] as usize;
-        tag ^= word(words, place).rotate_left(p as u32);
+    for (p, byte) in statement.iter().enumerate() {
+        tag ^= word(words, first + usize::from(*byte)).rotate_left(p as u32);
     }
     tag
 }
 
-impl Check for Sheet {
-    ghost tag = { λ s i l. sheet_tag s.words.items i l };
+impl Tagging for Sheet {
+    ghost tagged = { λ s i l. sheet_tag s.words.items i l };
 
-    ghost small = { Prim.search rules };
+    ghost fits = { Prim.search rules };
 
-    fn check(&self, station: u8, statement: &[u8; 24], shown: u64) -> bool {
-        shown == tag_of(&self.words, station, statement)
-    }
-}
-
-impl Sealing for Sheet {
-    fn seal(&self, station: u8, statement: &[u8; 24]) -> u64 {
-        tag_of(&self.words, station, statement)
+    fn tag_of(&self, station: u8, statement: &[u8; 24]) -> u64 {
+        if station >= 16 {
+            return 0;
+        }
+        mixed(&self.words, 256 * usize::from(station), statement)
     }
 }

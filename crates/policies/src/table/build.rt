@@ -1,29 +1,21 @@
 // Adding stations, and locking.
-ghost use Rattle.std.specs.Prelude.{◌≡◌};
+ghost use Rattle.std.specs.Prelude.{◌≡◌, count_by};
 ghost use Rattle.std.specs.Result.{result_map_both};
-ghost use Rattle.policies.specs.Sound.{faulty};
+ghost use Rattle.policies.specs.Sound.{is_faulty};
 ghost use Rattle.policies.specs.Tables.{open_plain, locked_plain, handed_back, empty, adding, locking};
 
 use super::{Locked, OpenTable};
 use base::fault::Fault;
 use base::refusal::Refusal;
 
-fn count_faulty(n: u32, marks: &[u8; 16]) -> u32
-    ensures { result ≡ faulty n marks.now }
+fn count_faulty(marks: &[u8]) -> usize
+    ensures { result ≡ count_by is_faulty marks.now }
 {
-    let mut f: u32 = 0;
-    for (i, m) in marks.iter().enumerate() {
-        if i >= n as usize {
-            return f;
-        }
-        if *m == 1 {
-            f += 1;
-        }
-    }
-    f
+    marks.iter().filter(|mark| **mark == 1).count()
 }
 
 impl OpenTable {
+    // By hand, for no Default is derived beside a ghost field.
     pub fn new() -> OpenTable
         ensures { open_plain result ≡ empty }
     {
@@ -58,10 +50,10 @@ impl OpenTable {
     pub fn lock(self, t: u32) -> Result<Locked, (OpenTable, Fault)>
         ensures { result_map_both locked_plain handed_back result ≡ locking (open_plain self) t }
     {
-        if t < 1 || t > 7 || self.n < 2 * t + 1 {
+        if !(1..=7).contains(&t) || self.n < 2 * t + 1 {
             return Err((self, Fault::new(Refusal::WrongThreshold, 0)));
         }
-        if t < count_faulty(self.n, &self.marks) {
+        if count_faulty(&self.marks[..self.n as usize]) > t as usize {
             return Err((self, Fault::new(Refusal::TooManyFaulty, 0)));
         }
         let OpenTable { n, marks } = self;

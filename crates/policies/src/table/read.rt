@@ -23,13 +23,11 @@ impl Locked {
     pub fn is_faulty(&self, i: u32) -> bool
         ensures { result ≡ is_faulty (slice_index (locked_plain self.now).marks i) }
     {
-        match self.marks.get(i as usize) {
-            Some(mark) => *mark == 1,
-            None => false,
-        }
+        self.marks.get(i as usize) == Some(&1)
     }
 
     // A second locked table of the same stations, for a second hall.
+    // By hand, for a derived `clone` and `..` are refused beside a ghost field, and a `clone` may fail.
     pub fn twin(&self) -> Locked
         ensures { locked_plain result ≡ locked_plain self.now }
     {

@@ -1,6 +1,0 @@
-use Rattle.std.proofs.Common.{◌≡◌, ◌+◌, ◌<◌, ◌≤◌, get_or}
-use Rattle.policies.specs.Masks.{masks, binomial}
-use Rattle.policies.proofs.full.mask.Given as goal
-
-abbrev pub invariant-loop-b : goal.invariant-loop-b
-invariant-loop-b l = (l.left ≤ 8) × (l.rest < binomial l.b l.left) × (l.found + get_or (masks l.b l.left) l.rest 0 ≡ get_or (masks l.n l.ones) l.rank 0)

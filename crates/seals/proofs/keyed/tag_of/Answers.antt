@@ -1,0 +1,8 @@
+use Rattle.std.proofs.Common.{rules}
+use Rattle.seals.proofs.Words.{chunks_folded}
+use Rattle.seals.proofs.keyed.tag_of.Goals as goal
+
+pub returns : goal.returns
+returns c =
+    let e = chunks_folded c.in-Some.key.now c.args.statement.now c.told-statement in
+    search rules
