@@ -6,14 +6,11 @@ ghost use Rattle.frames.specs.Frames.{first_fault, all_zero, num4, num8, rising_
 ghost use Rattle.frames.specs.Typed.{kind_number, kind_named, number_test, count_test, held_to, head_tests, count_tests, body_tests, head_of, holding, frame_of, decoded, line_decoded};
 ghost use Rattle.frames.specs.Bothways.{BothWays};
 
-use super::frame::{Frame, Kind, NO_PAIR, Pair, Pairs};
+use super::frame::{Frame, Kind, LAST_NUMBER, Pair, Pairs};
 use super::line::read_line;
 use base::book::Entry;
 use base::fault::Fault;
 use base::refusal::Refusal;
-
-// The highest committee number that a reselect may call up.
-const LAST_NUMBER: u16 = 20_000;
 
 // The first eight bytes.
 #[derive(Clone, Copy)]
@@ -191,7 +188,7 @@ fn read_pairs(count: u8, bytes: &[u8]) -> Pairs
     requires { length bytes.now ≡ 32 + 9 * count }
     ensures { result ≡ holding count (pairs_from count 32 bytes.now) }
 {
-    let mut each = [NO_PAIR; 8];
+    let mut each = [Pair::default(); 8];
     for k in 0..count.min(8) as usize {
         let place = 32 + 9 * k;
         each[k] = Pair {
