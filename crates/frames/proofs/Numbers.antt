@@ -92,7 +92,7 @@ num8-be8 x r h =
     let q = num4-be4 (x % 4294967296) r (omega arith) in
     ap (λ l. num8 (l ++ r) 0) (be8_split x) ∙ ap₂ (λ a b. a * 4294967296 + b) p q ∙ omega arith
 
-num8-drop : (bs : List ℕ) (i j : ℕ) → num8 (drop i bs) j ≡ num8 bs (i + j)
+pub num8-drop : (bs : List ℕ) (i j : ℕ) → num8 (drop i bs) j ≡ num8 bs (i + j)
 num8-drop bs i j = simp (get_or-drop, add_assoc)
 
 pub num8-at : (bs r : List ℕ) (i x : ℕ) → x < 2 ^ 64 → drop i bs ≡ be8 x ++ r → num8 bs i ≡ x

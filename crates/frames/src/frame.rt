@@ -1,10 +1,12 @@
 // A frame by its fields.
 ghost use Rattle.std.specs.Prelude.{◌≡◌, min, length};
 ghost use Rattle.frames.specs.Bytes.{statement, entry_bytes};
-ghost use Rattle.frames.specs.Typed.{StatementFits, HeadFits, kind_number, listed, stated, pair_stated};
+ghost use Rattle.frames.specs.Typed.{StatementFits, HeadFits, kind_number, kind_named, listed, stated, pair_stated};
 
 use super::bytes::first;
 use base::book::Entry;
+use base::fault::Fault;
+use base::refusal::Refusal;
 
 // What a frame says, by its number.
 #[derive(Clone, Copy, PartialEq, Eq, Debug)]
@@ -52,6 +54,22 @@ impl Kind {
         ensures { result ≡ kind_number self }
     {
         self as u8
+    }
+}
+
+// The kind of a frame's first byte.
+impl TryFrom<u8> for Kind {
+    type Error = Fault;
+
+    ghost try_from_gives = { λ number answer. answer ≡ kind_named number };
+
+    fn try_from(number: u8) -> Result<Self, Fault> {
+        match number {
+            1 => Ok(Kind::Propose),
+            2 => Ok(Kind::Decision),
+            3 => Ok(Kind::Reselect),
+            _ => Err(Fault::new(Refusal::Malformed, 0)),
+        }
     }
 }
 
