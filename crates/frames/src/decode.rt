@@ -157,7 +157,7 @@ impl Parts<'_> {
 impl Limits {
     // The parts of a frame whose head passes the tests up to the batch.
     fn read_parts<'a>(&self, bytes: &'a [u8]) -> Result<Parts<'a>, Fault>
-        ensures is { MatchResult result (λ p. Ok p.head ≡ held_to (first_fault (head_tests self.now.stations self.now.batches bytes.now)) (head_of bytes.now)) (λ x. Err x ≡ held_to (first_fault (head_tests self.now.stations self.now.batches bytes.now)) (head_of bytes.now)) }
+        ensures is { let read = held_to (first_fault (head_tests self.now.stations self.now.batches bytes.now)) (head_of bytes.now) in MatchResult result (λ p. Ok p.head ≡ read) (λ x. Err x ≡ read) }
         ensures cut { IfOk result (λ p. Cut bytes.now p.body.now p.pairs.now p.left.now) }
     {
         let [kind, sender, b1, b0, c1, c0, count, zero, rest @ ..] = bytes else {
@@ -235,7 +235,7 @@ impl Limits {
 
     // The parts of a frame that passes every test, in their order.
     fn check_form<'a>(&self, bytes: &'a [u8]) -> Result<Parts<'a>, Fault>
-        ensures { MatchResult result (λ p. decoded self.now.stations self.now.faults self.now.batches bytes.now ≡ Ok (frame_in p.head p.body.now p.pairs.now)) (λ x. decoded self.now.stations self.now.faults self.now.batches bytes.now ≡ Err x) }
+        ensures { let given = decoded self.now.stations self.now.faults self.now.batches bytes.now in MatchResult result (λ p. given ≡ Ok (frame_in p.head p.body.now p.pairs.now)) (λ x. given ≡ Err x) }
     {
         let parts = self.read_parts(bytes)?;
         self.check_counts(&parts.head)?;

@@ -82,7 +82,8 @@ impl Pairs {
     }
 }
 
-// The 24 bytes that a tag seals.
+// The 24 bytes that a tag seals. Each is named: copies of the fields into ranges of an array would
+// count the places by hand.
 fn state(kind: Kind, sender: u8, batch: u16, number: u16, count: u8, e: Entry) -> [u8; 24]
     ensures is { result ≡ statement (kind_number kind) sender batch number count (entry_bytes e) }
     ensures fits { StatementFits sender batch number count e }
