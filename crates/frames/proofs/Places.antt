@@ -52,14 +52,19 @@ free_behind (s ∷ ss) = go (empty s) refl (free_behind ss)
 pub record Found (pool : List Slot) (r : Option ℕ) : Type 0 where
   pub is : r ≡ lowest_free pool
   pub inside : IfSome r (λ k. k < length pool)
-  pub behind : MatchOption r (free pool ≡ 0) (λ k. free (drop k pool) ≡ free pool)
+  pub behind : MatchOption r (free pool ≡ 0) (λ k. count_by empty (take (length pool - k) (drop k pool)) ≡ free pool)
   pub place : MatchOption r ((x : Slot) → enter x pool ≡ pool) (λ k. (x : Slot) → enter x pool ≡ set pool k x)
 
 pub found : (pool : List Slot) (r : Option ℕ) → r ≡ position empty pool → Found pool r
 found pool r e = subst (Found pool) (sym (e ∙ position_is pool)) (go (ltb (first_free pool) (length pool)) refl)
   where
     go : (b : Bool) → ltb (first_free pool) (length pool) ≡ b → Found pool (cond b (Some (first_free pool)) None)
-    go true h = record { is = rw h refl; inside = ltb-true _ _ h; behind = free_behind pool; place = λ x. enter-set x pool }
+    go true h = record {
+      is = rw h refl;
+      inside = ltb-true _ _ h;
+      behind = ap (count_by empty) (take_rest pool (first_free pool)) ∙ sym (free_is (drop (first_free pool) pool)) ∙ free_behind pool;
+      place = λ x. enter-set x pool;
+    }
     go false h =
         let past : length pool ≤ first_free pool = ltb-false _ _ h in
         record {
@@ -68,15 +73,3 @@ found pool r e = subst (Found pool) (sym (e ∙ position_is pool)) (go (ltb (fir
           behind = sym (free_behind pool) ∙ at_drop_all free pool (first_free pool) past;
           place = λ x. enter-set x pool ∙ set_past pool (first_free pool) x past;
         }
-
--- the room of a pool, from its lowest empty slot and the count from there on
-pub rooms : (pool : List Slot) (r : Option ℕ) (m : ℕ) → r ≡ position empty pool
-    → MatchOption r (m ≡ 0) (λ k. m ≡ min (count_by empty (take (length pool - k) (drop k pool))) 3) → record { lowest = r; empty = m } ≡ room_of pool
-rooms pool r m e h = go r (found pool r e) h
-  where
-    go : (r : Option ℕ) → Found pool r → MatchOption r (m ≡ 0) (λ k. m ≡ min (count_by empty (take (length pool - k) (drop k pool))) 3)
-        → record { lowest = r; empty = m } ≡ room_of pool
-    go None f h = let z : m ≡ min (free pool) 3 = omega (arith, h, f.behind) in λ i. record { lowest = f.is i; empty = z i }
-    go (Some k) f h =
-        let z : m ≡ min (free pool) 3 = h ∙ ap (λ n. min n 3) (ap (count_by empty) (take_rest pool k) ∙ sym (free_is (drop k pool)) ∙ f.behind) in
-        λ i. record { lowest = f.is i; empty = z i }

@@ -1,6 +1,6 @@
 // Where frames wait to be delivered: a row of slots that the caller lends.
-ghost use Rattle.std.specs.Prelude.{◌≡◌, ◌==◌, min, count_by, position, slice_set, MatchOption};
-ghost use Rattle.frames.specs.Slots.{enter as entered, room_of};
+ghost use Rattle.std.specs.Prelude.{◌≡◌, ◌==◌, ◌-◌, ◌<◌, min, count_by, length, take, drop, slice_set, IfSome, MatchOption};
+ghost use Rattle.frames.specs.Slots.{free, lowest_free as lowest_of, enter as entered, room_of};
 ghost use Rattle.frames.specs.declared.slot.Slot.{Slot as AnySlot};
 
 use super::slot::Slot;
@@ -14,7 +14,10 @@ pub struct Room {
 }
 
 fn lowest_free(pool: &[Slot]) -> Option<usize>
-    ensures { result ≡ position (λ s. s.len == 0) pool.now }
+    ensures is { result ≡ lowest_of pool.now }
+    ensures inside { IfSome result (λ k. k < length pool.now) }
+    ensures behind { MatchOption result (free pool.now ≡ 0) (λ k. count_by (λ s. s.len == 0) (take (length pool.now - k) (drop k pool.now)) ≡ free pool.now) }
+    ensures place { MatchOption result ((x : AnySlot) → entered x pool.now ≡ pool.now) (λ k. (x : AnySlot) → entered x pool.now ≡ slice_set pool.now k x) }
 {
     pool.iter().position(Slot::is_free)
 }
@@ -32,10 +35,11 @@ pub fn find_room(pool: &[Slot]) -> Room
     ensures place { MatchOption result.lowest ((x : AnySlot) → entered x pool.now ≡ pool.now) (λ k. (x : AnySlot) → entered x pool.now ≡ slice_set pool.now k x) }
 {
     let lowest = lowest_free(pool);
-    Room {
-        lowest,
-        empty: lowest.map_or(0, |k| count_free(&pool[k..])),
-    }
+    let empty = match lowest {
+        Some(k) => count_free(&pool[k..]),
+        None => 0,
+    };
+    Room { lowest, empty }
 }
 
 // A frame goes into the lowest free slot; where none is free, nothing changes.
