@@ -57,17 +57,6 @@ filled_more cs some k each r d e h q inv =
     ap₂ (λ x y. set x k y) inv v ∙ fill_more (map pair_at (take k ps)) 8 k (pair_at (get_or ps k (0, 0))) front (omega arith)
     ∙ ap (λ l. l ++ replicate (8 - (k + 1)) no_pair) (sym (map_more pair_at ps k (0, 0) inside))
 
-pub filled_all : (count k : ℕ) (cs : List (List ℕ)) (each : List Pair) → k ≡ min 8 (length cs) → Filled (map pair_in cs) each k
-    → record { count = count; each = each } ≡ holding count (map pair_in cs)
-filled_all count k cs each h inv =
-    let ps : List (ℕ × ℕ) = map pair_in cs in
-    let size : min (length ps) 8 ≡ k = omega (arith, length-map cs pair_in) in
-    let same : take k ps ≡ take 8 ps = ap (λ n. take n ps) (sym size) ∙ sym (take_least 8 ps) in
-    let long : k ≡ length (map pair_at (take 8 ps)) = sym (length-map (take 8 ps) pair_at ∙ length-take 8 ps ∙ omega arith) in
-    let all : each ≡ map pair_at (take 8 ps) ++ replicate (8 - length (map pair_at (take 8 ps))) no_pair =
-    inv ∙ ap₂ (λ x y. map pair_at x ++ replicate (8 - y) no_pair) same long in
-    λ i. record { count = count; each = all i }
-
 -- parts that were cut
 
 at-cut : (w i j : ℕ) (bs : List ℕ) → j < w → at (take w (drop i bs)) j ≡ at bs (i + j)

@@ -60,11 +60,6 @@ be8-join hi lo h =
     cc
 
 -- for code that writes one half after the other
-pub be2_split : (x : ℕ) → x < 2 ^ 16 → be2 x ≡ x / 256 ∷ x % 256 ∷ []
-be2_split x h =
-    let p₁ : byte 1 x ≡ x / 256 = omega arith in
-    let p₀ : byte 0 x ≡ x % 256 = omega arith in
-    cc
 
 pub be4_split : (x : ℕ) → be4 x ≡ be2 (x / 65536) ++ be2 (x % 65536)
 be4_split x =
@@ -104,9 +99,6 @@ num2_lt bs i h = omega (arith, at_lt bs i h, at_lt bs (i + 1) h)
 
 pub num4_lt : (bs : List ℕ) (i : ℕ) → Bytes bs → num4 bs i < 2 ^ 32
 num4_lt bs i h = omega (arith, num2_lt bs i h, num2_lt bs (i + 2) h)
-
-pub num8_lt : (bs : List ℕ) (i : ℕ) → Bytes bs → num8 bs i < 2 ^ 64
-num8_lt bs i h = omega (arith, num4_lt bs i h, num4_lt bs (i + 4) h)
 
 pub be2-num2 : (bs : List ℕ) (i : ℕ) → Bytes bs → be2 (num2 bs i) ≡ read 2 i bs
 be2-num2 bs i h =

@@ -1,7 +1,8 @@
 -- Frames in a place of 104 bytes: what two parts make, and that nothing is lost.
 use Rattle.std.proofs.Common.{◌≡◌, ℕ, zero, suc, ◌+◌, ◌-◌, ◌≤◌, min, List, [], ◌∷◌, ◌++◌, length, take, drop, replicate, sym, refl, ap, ◌∙◌, ap₂, zero-add, arith}
 use lib.Seq.{paste}
-use Rattle.std.proofs.lemmas.List.{drop_at, drop-drop, drop-replicate, length-append, length-take-le, take_all, take_at}
+use Rattle.std.proofs.Math.Seq.{take-nil}
+use Rattle.std.proofs.lemmas.List.{drop_at, drop-drop, drop-replicate, length-append, length-take-le, take_all, take_at, take_min}
 use Rattle.frames.specs.Packed.{packed, unpacked}
 
 -- bytes that fit are read back
@@ -10,20 +11,8 @@ unpacked-packed bs h =
     let m : min (length bs) 104 ≡ length bs = omega arith in
     ap (λ n. take n (bs ++ replicate (104 - length bs) 0)) m ∙ take_at bs (replicate (104 - length bs) 0) (length bs) refl
 
-pub take_nil : {X : Type 0} (n : ℕ) → take {A = X} n [] ≡ []
-take_nil zero = refl
-take_nil (suc n) = refl
-
 pub take_least : {X : Type 0} (n : ℕ) (ys : List X) → take n ys ≡ take (min (length ys) n) ys
-take_least n [] = take_nil n ∙ sym (take_nil (min 0 n))
-take_least zero (y ∷ ys) = let m : min (suc (length ys)) 0 ≡ 0 = omega arith in rw m refl
-take_least (suc n) (y ∷ ys) =
-    let m : min (suc (length ys)) (suc n) ≡ suc (min (length ys) n) = omega arith in
-    rw m (ap (λ r. y ∷ r) (take_least n ys))
-
--- for code that hands them on
-pub packed-through : (bs : List ℕ) → length bs ≤ 104 → take 104 (unpacked (packed bs)) ≡ bs
-packed-through bs h = ap (take 104) (unpacked-packed bs h) ∙ take_all 104 bs h
+take_least n ys = sym (take_min n ys) ∙ (let e : min n (length ys) ≡ min (length ys) n = omega arith in ap (λ k. take k ys) e)
 
 -- a list cut off, by its two parts
 take_two : (n : ℕ) (xs ys : List ℕ) → take n (xs ++ ys) ≡ take (min (length xs) n) xs ++ take (min (length ys) (n - min (length xs) n)) ys
@@ -33,7 +22,7 @@ take_two zero xs ys =
     rw (k, m) refl
 take_two (suc n) [] ys =
     let k : min (length ys) (suc n - min 0 (suc n)) ≡ min (length ys) (suc n) = omega arith in
-    rw k (take_least (suc n) ys ∙ sym (ap (λ r. r ++ take (min (length ys) (suc n)) ys) (take_nil (min 0 (suc n)))))
+    rw k (take_least (suc n) ys ∙ sym (ap (λ r. r ++ take (min (length ys) (suc n)) ys) (take-nil (min 0 (suc n)))))
 take_two (suc n) (x ∷ xs) ys =
     let m : min (suc (length xs)) (suc n) ≡ suc (min (length xs) n) = omega arith in
     let k : suc n - suc (min (length xs) n) ≡ n - min (length xs) n = omega arith in

@@ -77,9 +77,6 @@ pub record Begun (l out : List ℕ) (k : ℕ) : Type 0 where
   pub behind : drop k out ≡ replicate (104 - k) 0
   pub size : length out ≡ 104
 
-pub begun_none : (l : List ℕ) → Begun l (replicate 104 0) 0
-begun_none l = record { right = refl; front = refl; behind = refl; size = refl }
-
 -- the first digit of the next byte is wrong, or its second
 pub begun_first : (l out : List ℕ) (k : ℕ) → Begun l out k → 2 * k < length l → 16 ≤ nibble (get_or l (2 * k) 0) → first_wrong 0 l ≡ Some (2 * k)
 begun_first l out k b h n = sym b.right ∙ wrong_stops l (2 * k) h n
