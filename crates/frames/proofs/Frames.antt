@@ -26,7 +26,6 @@ pub length-pairs_from : (m i : ℕ) (bs : List ℕ) → length (pairs_from m i b
 length-pairs_from zero i bs = refl
 length-pairs_from (suc m) i bs = ap suc (length-pairs_from m (i + 9) bs)
 
-
 pub pairs_from_bytes : (bs : List ℕ) (i : ℕ) (ps : List (ℕ × ℕ)) → AllByRecursion (λ p. p.1 < 2 ^ 64) ps → drop i bs ≡ pair_bytes ps
     → pairs_from (length ps) i bs ≡ ps
 pairs_from_bytes bs i [] h e = refl

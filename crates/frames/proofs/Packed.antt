@@ -40,25 +40,20 @@ over_zeros n xs ys h =
     ∙ drop-replicate (length ys) (n - length xs) 0 ∙ ap (λ m. replicate m 0) k in
     λ i. (t i ++ take_all (length ys) ys (omega arith) i) ++ d i
 
--- what `join` writes
-pub joined : (front back x y : List ℕ) (here more : ℕ) → here ≡ min (length front) 104 → more ≡ min (length back) (104 - here)
-    → x ≡ paste (replicate 104 0) 0 (take (here - 0) front) (length (take (here - 0) front))
-    → y ≡ paste x here (take (more - 0) back) (length (take (more - 0) back))
-    → record { len = here + more; bytes = y } ≡ packed (take 104 (front ++ back))
-joined front back x y here more a m p q =
-    let f : List ℕ = take here front in
-    let g : List ℕ = take more back in
-    let z₁ : here - 0 ≡ here = omega arith in
-    let z₂ : more - 0 ≡ more = omega arith in
-    let lf : length f ≡ here = length-take-le here front (omega arith) in
-    let lg : length g ≡ more = length-take-le more back (omega arith) in
-    let whole : take 104 (front ++ back) ≡ f ++ g = take_two 104 front back ∙ sym (ap₂ (λ u v. take u front ++ take v back) a (m ∙ ap (λ u. min (length back) (104 - u)) a)) in
-    let size : length (take 104 (front ++ back)) ≡ here + more = ap length whole ∙ length-append f g ∙ ap₂ ◌+◌ lf lg in
-    let first : x ≡ f ++ replicate (104 - length f) 0 = p ∙ ap (λ n. paste (replicate 104 0) 0 (take n front) (length (take n front))) z₁ ∙ over_zeros 104 [] f (omega arith) ∙ ap (λ n. f ++ replicate (104 - n) 0) (zero-add (length f)) in
-    let bytes : y ≡ (f ++ g) ++ replicate (104 - (length f + length g)) 0 =
-    q ∙ ap (λ n. paste x here (take n back) (length (take n back))) z₂
-    ∙ ap₂ (λ u v. paste u v g (length g)) first (sym lf) ∙ over_zeros 104 f g (omega arith) in
+-- what `join` writes: f and g are what there is room for
+pub joined : (front back f g x y : List ℕ) → f ≡ take (min 104 (length front)) front → g ≡ take (min (104 - length f) (length back)) back
+    → x ≡ paste (replicate 104 0) 0 f (length f) → y ≡ paste x (length f) g (length g)
+    → record { len = length f + length g; bytes = y } ≡ packed (take 104 (front ++ back))
+joined front back f g x y a m p q =
+    let lf : length f ≡ min 104 (length front) = ap length a ∙ length-take-le (min 104 (length front)) front (omega arith) in
+    let lg : length g ≡ min (104 - length f) (length back) = ap length m ∙ length-take-le (min (104 - length f) (length back)) back (omega arith) in
+    let n : min 104 (length front) ≡ min (length front) 104 = omega arith in
+    let k : min (104 - length f) (length back) ≡ min (length back) (104 - min (length front) 104) = omega arith in
+    let whole : take 104 (front ++ back) ≡ f ++ g = take_two 104 front back ∙ sym (ap₂ ◌++◌ (a ∙ ap (λ u. take u front) n) (m ∙ ap (λ u. take u back) k)) in
+    let size : length (take 104 (front ++ back)) ≡ length f + length g = ap length whole ∙ length-append f g in
+    let first : x ≡ f ++ replicate (104 - length f) 0 = p ∙ over_zeros 104 [] f (omega arith) ∙ ap (λ n. f ++ replicate (104 - n) 0) (zero-add (length f)) in
+    let bytes : y ≡ (f ++ g) ++ replicate (104 - (length f + length g)) 0 = q ∙ ap (λ u. paste u (length f) g (length g)) first ∙ over_zeros 104 f g (omega arith) in
     λ i. record {
       len = sym size i;
-      bytes = (bytes ∙ ap₂ (λ u v. u ++ replicate (104 - v) 0) (sym whole) (ap₂ ◌+◌ lf lg ∙ sym size)) i;
+      bytes = (bytes ∙ ap₂ (λ u v. u ++ replicate (104 - v) 0) (sym whole) (sym size)) i;
     }

@@ -11,7 +11,7 @@ pub const LONGEST: usize = 104;
 #[derive(Clone, Copy, PartialEq, Eq, Debug)]
 pub struct FrameBytes {
     pub len: u32,
-    pub bytes: [u8; 104],
+    pub bytes: [u8; LONGEST],
 }
 
 // The first `len` of some items, all of them where there are fewer.
@@ -34,13 +34,13 @@ impl FrameBytes {
     pub(super) fn join(front: &[u8], back: &[u8]) -> FrameBytes
         ensures { result ≡ packed (take 104 (front.now ++ back.now)) }
     {
-        let at = front.len().min(LONGEST);
-        let more = back.len().min(LONGEST - at);
-        let mut bytes = [0u8; 104];
-        put(&mut bytes, 0, &front[0..at]);
-        put(&mut bytes, at, &back[0..more]);
+        let front = first(front, LONGEST);
+        let back = first(back, LONGEST - front.len());
+        let mut bytes = [0; LONGEST];
+        put(&mut bytes, 0, front);
+        put(&mut bytes, front.len(), back);
         FrameBytes {
-            len: (at + more) as u32,
+            len: (front.len() + back.len()) as u32,
             bytes,
         }
     }

@@ -3,7 +3,7 @@ ghost use Rattle.std.specs.Prelude.{◌≡◌, ◌*◌, ◌<◌, ◌≤◌, ◌+
 ghost use Rattle.frames.specs.Frames.{hex, digit as digit_of};
 ghost use Rattle.frames.specs.Packed.{Sized, digit_read, line_read, line_written, OneLine};
 
-use super::bytes::FrameBytes;
+use super::bytes::{FrameBytes, LONGEST};
 use base::fault::Fault;
 use base::refusal::Refusal;
 
@@ -35,7 +35,7 @@ fn read_digits(line: &[u8]) -> Result<FrameBytes, Fault>
     ensures { result ≡ line_read line.now }
 {
     let (pairs, _) = line.as_chunks::<2>();
-    let mut bytes = [0u8; 104];
+    let mut bytes = [0; LONGEST];
     for (k, [high, low]) in pairs.iter().enumerate() {
         bytes[k] = digit_value(*high, 2 * k)? * 16 + digit_value(*low, 2 * k + 1)?;
     }

@@ -2,7 +2,7 @@
 ghost use Rattle.std.specs.Prelude.{◌≡◌, take, ◌==◌};
 ghost use Rattle.frames.specs.Slots.{framed, slot_of};
 
-use super::bytes::{FrameBytes, first};
+use super::bytes::{FrameBytes, LONGEST, first};
 
 // Who put a frame into a pool, by the number that a slot keeps.
 #[derive(Clone, Copy, PartialEq, Eq, Debug)]
@@ -18,7 +18,7 @@ pub enum Origin {
 #[derive(Clone, Copy, PartialEq, Eq, Debug)]
 pub struct Slot {
     pub len: u32,
-    pub bytes: [u8; 104],
+    pub bytes: [u8; LONGEST],
     pub by: u8,
     pub taken: bool,
 }
