@@ -4,7 +4,7 @@ use Rattle.std.specs.List.{list_all}
 use Rattle.std.specs.Simd.{first_chunks}
 use Rattle.std.proofs.lemmas.Bool.{eqb-true}
 use Rattle.std.proofs.lemmas.Bool.Decides.{nat_tests}
-use Rattle.std.proofs.lemmas.List.{append_assoc, drop-drop, get_or-drop, get_or-map, get_or-take, length-map, length-take, length-take-le, map_more, set_at, take-take}
+use Rattle.std.proofs.lemmas.List.{append_assoc, drop-drop, get_or-drop, get_or-map, get_or-take, length-map, length-take-le, map_more, set_at, take-take}
 use Rattle.std.proofs.lemmas.List.Recursion.{same_from_clauses}
 use Rattle.base.specs.declared.fault.Fault.{Fault}
 use Rattle.base.specs.declared.refusal.Refusal.TheVariants.{Malformed}
@@ -15,7 +15,6 @@ use Rattle.frames.specs.Frames.{◌and◌, at, num4, num8, all_zero, first_fault
 use Rattle.frames.specs.Certificates.{malformed}
 use Rattle.frames.specs.Typed.{kind_number, kind_at, no_pair, pair_at, holding, frame_of, held_to, head_tests, count_tests, body_tests, head_of, decoded, Cut, entry_in, tag_in, pair_in, parts_tests, frame_in}
 use Rattle.frames.proofs.Numbers.{num8-drop}
-use Rattle.frames.proofs.Packed.{take_least}
 use Rattle.frames.proofs.Formed.{between_says, first_fault_all}
 
 -- blank bytes, in the library's words

@@ -1,14 +1,13 @@
 -- Frames: what is read from a frame that was written, and how a frame that is read was written.
-use Rattle.std.proofs.Common.{◌≡◌, ℕ, zero, suc, ◌+◌, ◌-◌, ◌*◌, ◌^◌, ◌<◌, ◌≤◌, true, false, ltb, leb, List, [], ◌∷◌, ◌++◌, length, get_or, take, drop, replicate, Some, sym, refl, ap, ◌∙◌, subst, ap₂, ⊎_elim, add-zero, arith}
+use Rattle.std.proofs.Common.{◌≡◌, ℕ, zero, suc, ◌+◌, ◌*◌, ◌^◌, ◌<◌, ◌≤◌, List, [], ◌∷◌, ◌++◌, length, get_or, take, drop, replicate, sym, refl, ap, ◌∙◌, subst, ap₂, add-zero, arith}
 use Rattle.std.specs.List.{AllByRecursion}
-use Rattle.std.proofs.lemmas.Bool.{eq-eqb, cases_lt, ne_eqb}
-use Rattle.std.proofs.lemmas.Bool.Decides.{nat_tests}
+use Rattle.std.proofs.lemmas.Bool.{eq-eqb, ne_eqb}
 use Rattle.std.proofs.lemmas.List.{length-append, append_assoc, take_at, drop_at, drop-drop, drop_all, get_or-drop}
 use Rattle.std.proofs.ByRecursion.{All-append}
 use Rattle.base.specs.declared.book.Entry.{Entry}
 use Rattle.frames.specs.Bytes.{byte, be4, be8, entry_bytes, statement, proposes, reselects, pair_bytes}
 use Rattle.frames.specs.Certificates.{Rising, Fits}
-use Rattle.frames.specs.Frames.{at, num8, entry_of, kind_of, sender_of, batch_of, number_of, count_of, tag_of, pairs_from, pairs_of, pair_states, first_fault, rising_tests, ◌and◌}
+use Rattle.frames.specs.Frames.{at, num8, entry_of, kind_of, sender_of, batch_of, number_of, count_of, tag_of, pairs_from, pairs_of, pair_states}
 use Rattle.frames.proofs.Numbers.{Bytes, be2_bytes, be4_bytes, be8_bytes, num2-be2, num4-be4, num8-at, be2-num2, be4-num4, be8-num8, take-read, drop-read}
 use Rattle.frames.proofs.Formed.{Formed}
 

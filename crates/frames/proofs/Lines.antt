@@ -4,7 +4,6 @@ use Rattle.std.specs.List.{AllByRecursion}
 use Rattle.std.proofs.lemmas.Bool.{ltb-true, lt-ltb, le-ltb}
 use Rattle.std.proofs.lemmas.Bool.Decides.{nat_tests}
 use Rattle.std.proofs.lemmas.List.{at_drop_more, drop_more, take_more_set, append_assoc}
-use Rattle.std.proofs.ByRecursion.{All-get_or}
 use Rattle.frames.specs.Frames.{digit, hex, ◌and◌, nibble, first_wrong, unhex, line_fault}
 use Rattle.frames.proofs.Numbers.{Bytes}
 use Rattle.frames.proofs.Basics.{passed}

@@ -1,11 +1,11 @@
 -- The walk through a pool: where its lowest empty slot is, and how many are empty.
-use Rattle.std.proofs.Common.{◌≡◌, ℕ, suc, ◌+◌, ◌-◌, ◌<◌, ◌≤◌, min, Bool, true, false, cond, eqb, ltb, List, [], ◌∷◌, length, take, drop, set, Some, None, Option, IfSome, MatchOption, count_by, position, sym, refl, ap, ◌∙◌, subst, arith}
+use Rattle.std.proofs.Common.{◌≡◌, ℕ, suc, ◌+◌, ◌-◌, ◌<◌, ◌≤◌, Bool, true, false, cond, eqb, ltb, List, [], ◌∷◌, length, take, drop, set, Some, None, Option, IfSome, MatchOption, count_by, position, sym, refl, ap, ◌∙◌, subst, arith}
 use Rattle.std.specs.List.{position_or_len}
 use Rattle.std.proofs.lemmas.Bool.{ltb-true, ltb-false}
 use Rattle.std.proofs.lemmas.List.{at_drop_all, set_past, take_rest}
 use Rattle.std.proofs.lemmas.List.Recursion.{is_count_by, is_position_or_len}
 use Rattle.frames.specs.declared.slot.Slot.{Slot}
-use Rattle.frames.specs.Slots.{free, enter, first_free, lowest_free, room_of}
+use Rattle.frames.specs.Slots.{free, enter, first_free, lowest_free}
 
 abbrev empty : Slot → Bool
 empty s = eqb s.len 0

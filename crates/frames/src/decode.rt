@@ -67,41 +67,24 @@ fn is_blank(body: &[u8; 24]) -> bool
     body[..16].iter().all(|b| *b == 0)
 }
 
+// The entry is the first four words of four bytes, and the tag the third of eight.
 fn read_entry(body: &[u8; 24]) -> Entry
     ensures { result ≡ entry_in body.now }
 {
-    let [
-        g3,
-        g2,
-        g1,
-        g0,
-        a3,
-        a2,
-        a1,
-        a0,
-        c3,
-        c2,
-        c1,
-        c0,
-        f3,
-        f2,
-        f1,
-        f0,
-        ..
-    ] = *body;
+    let (words, _) = body.as_chunks::<4>();
     Entry {
-        grower: u32::from_be_bytes([g3, g2, g1, g0]),
-        amount: u32::from_be_bytes([a3, a2, a1, a0]),
-        carry: u32::from_be_bytes([c3, c2, c1, c0]),
-        figure: u32::from_be_bytes([f3, f2, f1, f0]),
+        grower: u32::from_be_bytes(words[0]),
+        amount: u32::from_be_bytes(words[1]),
+        carry: u32::from_be_bytes(words[2]),
+        figure: u32::from_be_bytes(words[3]),
     }
 }
 
 fn read_tag(body: &[u8; 24]) -> u64
     ensures { result ≡ tag_in body.now }
 {
-    let [.., t7, t6, t5, t4, t3, t2, t1, t0] = *body;
-    u64::from_be_bytes([t7, t6, t5, t4, t3, t2, t1, t0])
+    let (words, _) = body.as_chunks::<8>();
+    u64::from_be_bytes(words[2])
 }
 
 fn read_pair(bytes: &[u8; 9]) -> Pair

@@ -1,4 +1,3 @@
-use Rattle.std.proofs.Common.{arith}
 use Rattle.frames.proofs.Decoding.{filled_more}
 use Rattle.frames.proofs.decode.read_pairs.Goals as goal
 

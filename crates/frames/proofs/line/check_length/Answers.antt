@@ -1,4 +1,4 @@
-use Rattle.std.proofs.Common.{arith, rules}
+use Rattle.std.proofs.Common.{rules}
 use Rattle.frames.proofs.Reading.{read_unsized}
 use Rattle.frames.proofs.line.check_length.Goals as goal
 use Rattle.frames.proofs.line.check_length.Goals.{else-contains-via-then-contains+else-is_multiple_of, else-contains-via-else-contains}
