@@ -4,7 +4,7 @@ use super::reply::Reply;
 use super::words::{Words, hex_word, statement};
 use base::book::Batch;
 use base::fault::Fault;
-use frames::decode::decode;
+use frames::decode::Limits;
 use frames::frame::Frame;
 use frames::line::read_line;
 use policies::any::AnyPolicy;
@@ -349,7 +349,12 @@ fn measure(words: &mut Words) -> Option<Reply> {
 // A line goes through two layers, and what either refuses comes back as it is.
 fn decode_line(line: &[u8], table: &Locked, batches: u32) -> Result<Frame, Fault> {
     let bytes = read_line(line)?;
-    decode(table.stations(), table.faults(), batches, bytes.as_slice())
+    let limits = Limits {
+        stations: table.stations(),
+        faults: table.faults(),
+        batches,
+    };
+    limits.decode(bytes.as_slice())
 }
 
 // Up to sixteen keys, missing ones 0.

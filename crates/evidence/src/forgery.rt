@@ -5,7 +5,7 @@ ghost use Rattle.evidence.specs.Forgery.{faulty_in, of_step, step_begins, bound,
 
 use super::tags::place_of;
 use frames::frame::Frame;
-use frames::slot::Slot;
+use frames::slot::{Origin, Slot};
 use policies::table::Locked;
 use seals::seal::Check;
 
@@ -13,7 +13,7 @@ use seals::seal::Check;
 fn is_of_step(slot: &Slot) -> bool
     ensures { result ≡ of_step slot.now }
 {
-    slot.by == 0 && slot.len >= 1
+    slot.by == Origin::Step as u8 && slot.len >= 1
 }
 
 // Whether a slot holds a step's frame that begins with a statement.

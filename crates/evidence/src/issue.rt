@@ -6,11 +6,8 @@ ghost use Rattle.evidence.specs.Issue.{right_tag, bytes_under};
 use frames::encode::encode;
 use frames::frame::Frame;
 use frames::pool::enter;
-use frames::slot::Slot;
+use frames::slot::{Origin, Slot};
 use seals::seal::Sealing;
-
-// Who puts a frame of a step into the pool.
-const STEP: u8 = 0;
 
 // The sender's tag on the frame's statement.
 fn own_tag<S: Sealing>(seal: &S, frame: &Frame) -> u64
@@ -24,7 +21,7 @@ fn slot_under(frame: &Frame, tag: u64) -> Slot
     ensures { result ≡ slot_of 0 (bytes_under tag frame.now) }
 {
     let sealed = Frame { tag, ..*frame };
-    Slot::holding(encode(&sealed).as_slice(), STEP)
+    Slot::holding(encode(&sealed).as_slice(), Origin::Step as u8)
 }
 
 // Seals the frame's statement as its sender and enters it; answers the tag. The frame's own tag is not looked at.

@@ -1,7 +1,8 @@
 -- Decoding what was encoded, encoding what was decoded, and certificates.
-use Rattle.std.proofs.Common.{◌≡◌, ℕ, zero, suc, ◌+◌, ◌-◌, ◌*◌, ◌^◌, ◌<◌, ◌≤◌, min, cond, eqb, List, [], ◌∷◌, ◌++◌, map, length, take, replicate, None, Ok, sym, refl, ap, ◌∙◌, subst, ap₂, ⊎_elim, suc-add, zero-add, arith}
+use Rattle.std.proofs.Common.{◌≡◌, ℕ, zero, suc, ◌+◌, ◌-◌, ◌*◌, ◌^◌, ◌<◌, ◌≤◌, min, cond, eqb, List, [], ◌∷◌, ◌++◌, map, length, take, replicate, None, Ok, sym, refl, ap, ◌∙◌, subst, ap₂, ⊎_elim, arith}
 use Rattle.std.specs.List.{AllByRecursion}
 use Rattle.std.proofs.lemmas.Bool.{eq-eqb, eqb-true, ne_eqb, cases_eq}
+use Rattle.std.proofs.Math.Seq.{take-append-add, take-nil}
 use Rattle.std.proofs.ByRecursion.{All-weaker, All-map}
 use Rattle.std.proofs.lemmas.List.{length-map, length-take, nil_from_length, take_all, take_at}
 use Rattle.base.specs.declared.book.Entry.{Entry}
@@ -17,7 +18,6 @@ use Rattle.frames.specs.Bothways.{Says, Fields, WellFormed, Accepted, BothWays, 
 use Rattle.frames.proofs.Numbers.{Bytes}
 use Rattle.frames.proofs.Formed.{Formed, formed_none, none_formed, first_pair_all, first_pair_none}
 use Rattle.frames.proofs.Frames.{frame, frame_is, take_frame, tag_frame, batch_frame, number_frame, pairs_of_frame, entry_frame, body_entry, length-pairs_from, propose_formed, decision_formed, reselect_formed}
-use Rattle.frames.proofs.Packed.{take_nil}
 use Rattle.frames.proofs.Decoding.{named, held, decoded-holds}
 use Rattle.frames.proofs.Certificates.{certifies, certificate}
 
@@ -146,14 +146,11 @@ encode_back f ps k is size end front seal tags n t batches w =
 
 -- a list cut behind its first part
 take_over : (a k : ℕ) (xs ys : List ℕ) → length xs ≡ a → take (a + k) (xs ++ ys) ≡ xs ++ take k ys
-take_over zero k [] ys h = ap (λ m. take m ys) (zero-add k)
-take_over (suc a) k [] ys h = absurd (omega arith)
-take_over zero k (x ∷ xs) ys h = absurd (omega arith)
-take_over (suc a) k (x ∷ xs) ys h = ap (λ m. take m (x ∷ (xs ++ ys))) (suc-add a k) ∙ ap (λ r. x ∷ r) (take_over a k xs ys (omega arith))
+take_over a k xs ys h = ap (λ m. take (m + k) (xs ++ ys)) (sym h) ∙ take-append-add xs ys k
 
 take-pair_bytes : (k : ℕ) (ps : List (ℕ × ℕ)) → take (9 * k) (pair_bytes ps) ≡ pair_bytes (take k ps)
 take-pair_bytes zero ps = refl
-take-pair_bytes (suc k) [] = take_nil (9 * suc k)
+take-pair_bytes (suc k) [] = take-nil (9 * suc k)
 take-pair_bytes (suc k) (p ∷ ps) =
     let e : 9 * suc k ≡ 9 + 9 * k = omega arith in
     ap (λ m. take m (pair_bytes (p ∷ ps))) e ∙ take_over 9 (9 * k) (p.0 ∷ be8 p.1) (pair_bytes ps) refl

@@ -1,66 +1,37 @@
 -- Frames as they are read: a chain of tests, part by part, and one pair after the other.
-use Rattle.std.proofs.Common.{◌≡◌, ℕ, zero, suc, ◌+◌, ◌-◌, ◌*◌, ◌<◌, ◌≤◌, min, Bool, true, false, List, [], ◌∷◌, ◌++◌, map, length, get_or, take, drop, set, replicate, Some, None, Ok, Err, Option, sym, refl, ap, ◌∙◌, ap₂, arith}
-use Rattle.std.proofs.lemmas.Bool.{eq-eqb, ne_eqb}
+use Rattle.std.proofs.Common.{◌≡◌, ℕ, zero, suc, ◌+◌, ◌-◌, ◌*◌, ◌/◌, ◌<◌, ◌≤◌, min, Bool, true, false, ◌&&◌, cond, eqb, List, [], ◌∷◌, ◌++◌, map, length, get_or, take, drop, set, replicate, Some, None, Ok, Err, Option, sym, refl, ap, ◌∙◌, ap₂, arith, lit<}
+use Rattle.std.specs.List.{list_all}
+use Rattle.std.specs.Simd.{first_chunks}
+use Rattle.std.proofs.lemmas.Bool.{eqb-true}
 use Rattle.std.proofs.lemmas.Bool.Decides.{nat_tests}
-use Rattle.std.proofs.lemmas.List.{append_assoc, at_drop_more, length-map, length-take, length-take-le, map_more, set_at}
-use Rattle.base.specs.declared.book.Entry.{Entry}
+use Rattle.std.proofs.lemmas.List.{append_assoc, drop-drop, get_or-drop, get_or-map, get_or-take, length-map, length-take-le, map_more, set_at, take-take}
+use Rattle.std.proofs.lemmas.List.Recursion.{same_from_clauses}
 use Rattle.base.specs.declared.fault.Fault.{Fault}
 use Rattle.base.specs.declared.refusal.Refusal.TheVariants.{Malformed}
 use Rattle.base.specs.Refusals.{fault_at}
 use Rattle.frames.specs.declared.frame.Pair.{Pair}
-use Rattle.frames.specs.declared.frame.Pairs.{Pairs}
 use Rattle.frames.specs.declared.decode.Head.{Head}
-use Rattle.frames.specs.Frames.{at, num8, all_zero, first_fault, rising_tests, pairs_from, pairs_of, kind_of, number_of, count_of, entry_of, tag_of}
+use Rattle.frames.specs.Frames.{◌and◌, at, num4, num8, all_zero, first_fault, rising_tests, pairs_from, pairs_of, kind_of, number_of, count_of, entry_of, tag_of}
 use Rattle.frames.specs.Certificates.{malformed}
-use Rattle.frames.specs.Typed.{kind_number, kind_at, no_pair, pair_at, holding, frame_of, held_to, head_tests, count_tests, body_tests, head_of, decoded}
-use Rattle.frames.proofs.Frames.{rising_stops, rising_more, length-pairs_from}
-use Rattle.frames.proofs.Packed.{take_least}
+use Rattle.frames.specs.Typed.{kind_number, kind_at, no_pair, pair_at, holding, frame_of, held_to, head_tests, count_tests, body_tests, head_of, decoded, Cut, entry_in, tag_in, pair_in, parts_tests, frame_in}
+use Rattle.frames.proofs.Numbers.{num8-drop}
 use Rattle.frames.proofs.Formed.{between_says, first_fault_all}
 
--- blank bytes
-
-pub blank_stops : (l : List ℕ) (i : ℕ) → i < length l → (get_or l i 0 ≡ 0 → ⊥) → all_zero (drop i l) ≡ false
-blank_stops l i h n = at_drop_more all_zero l i 0 h ∙ rw (ne_eqb (get_or l i 0) 0 n) refl
-
-pub blank_more : (l : List ℕ) (i : ℕ) → i < length l → get_or l i 0 ≡ 0 → all_zero (drop i l) ≡ all_zero (drop (i + 1) l)
-blank_more l i h n = at_drop_more all_zero l i 0 h ∙ rw (eq-eqb (get_or l i 0) 0 n) refl
+-- blank bytes, in the library's words
+blank_is : (xs : List ℕ) → all_zero xs ≡ list_all (λ x. eqb x 0) xs
+blank_is = same_from_clauses all_zero (list_all (λ x. eqb x 0)) (λ x b. eqb x 0 and b) refl (λ x xs. refl) (λ x xs. go (eqb x 0) (list_all (λ x. eqb x 0) xs))
+  where
+    go : (a b : Bool) → (a && b) ≡ (a and b)
+    go true b = refl
+    go false b = refl
 
 -- the stations of the pairs
 
 -- what is left of the tests gives what they all give
-abbrev pub Rises : ℕ → ℕ → ℕ → ℕ → List ℕ → Type 0
-Rises n low count k bs =
-    first_fault (rising_tests n low (32 + 9 * k) (pairs_from (count - k) (32 + 9 * k) bs)) ≡ first_fault (rising_tests n 0 32 (pairs_from count 32 bs))
-
-pub pairs_start : (n count : ℕ) (bs : List ℕ) → Rises n 0 count 0 bs
-pairs_start n count bs = let e : count - 0 ≡ count = omega arith in ap (λ m. first_fault (rising_tests n 0 32 (pairs_from m 32 bs))) e
-
-pub pairs_stop : (n low count k : ℕ) (bs : List ℕ) (x : Fault) → k < count → (at bs (32 + 9 * k) < n → low ≤ at bs (32 + 9 * k) → ⊥) → x ≡ fault_at Malformed (32 + 9 * k) → Rises n low count k bs
-    → Err x ≡ held_to {A = Unit {0}} (first_fault (rising_tests n 0 32 (pairs_from count 32 bs))) tt
-pairs_stop n low count k bs x h c e inv =
-    ap Err e ∙ ap (λ o. held_to {A = Unit {0}} o tt) (sym (rising_stops n low (32 + 9 * k) (count - k) bs (omega arith) c) ∙ inv)
-
-pub pairs_more : (n low count k : ℕ) (bs : List ℕ) → k < count → at bs (32 + 9 * k) < n → low ≤ at bs (32 + 9 * k) → Rises n low count k bs
-    → Rises n (at bs (32 + 9 * k) + 1) count (k + 1) bs
-pairs_more n low count k bs h p q inv =
-    let m : count - (k + 1) ≡ count - k - 1 = omega arith in
-    let j : 32 + 9 * (k + 1) ≡ 32 + 9 * k + 9 = omega arith in
-    ap₂ (λ u v. first_fault (rising_tests n (at bs (32 + 9 * k) + 1) v (pairs_from u v bs))) m j
-    ∙ sym (rising_more n low (32 + 9 * k) (count - k) bs (omega arith) p q) ∙ inv
-
-pub pairs_end : (n low count k : ℕ) (bs : List ℕ) → count ≤ k → Rises n low count k bs → Ok tt ≡ held_to {A = Unit {0}} (first_fault (rising_tests n 0 32 (pairs_from count 32 bs))) tt
-pairs_end n low count k bs h inv =
-    let m : count - k ≡ 0 = omega arith in
-    ap (λ o. held_to {A = Unit {0}} o tt) (sym (ap (λ u. first_fault (rising_tests n low (32 + 9 * k) (pairs_from u (32 + 9 * k) bs))) m) ∙ inv)
+abbrev pub Rises : ℕ → ℕ → ℕ → List (List ℕ) → Type 0
+Rises n low k cs = first_fault (rising_tests n low (32 + 9 * k) (map pair_in (drop k cs))) ≡ first_fault (rising_tests n 0 32 (map pair_in cs))
 
 -- the pairs that are kept
-
-pairs_from-at : (m i k : ℕ) (bs : List ℕ) (d : ℕ × ℕ) → k < m → get_or (pairs_from m i bs) k d ≡ (at bs (i + 9 * k), num8 bs (i + 9 * k + 1))
-pairs_from-at zero i k bs d h = absurd (omega arith)
-pairs_from-at (suc m) i zero bs d h = let e : i + 9 * 0 ≡ i = omega arith in rw e refl
-pairs_from-at (suc m) i (suc k) bs d h =
-    let e : i + 9 + 9 * k ≡ i + 9 * suc k = omega arith in
-    pairs_from-at m (i + 9) k bs d (omega arith) ∙ ap (λ j. (at bs j, num8 bs (j + 1))) e
 
 -- k pairs stand in front, and none behind
 abbrev pub Filled : List (ℕ × ℕ) → List Pair → ℕ → Type 0
@@ -72,28 +43,74 @@ fill_more xs n k v l h =
     ap (λ m. set (xs ++ replicate m no_pair) k v) e ∙ set_at xs no_pair (replicate (n - (k + 1)) no_pair) v k l
     ∙ sym (append_assoc xs (v ∷ []) (replicate (n - (k + 1)) no_pair))
 
-pub filled_more : (count k : ℕ) (bs : List ℕ) (each : List Pair) (station tag : ℕ) → k < count → k < 8 → station ≡ at bs (32 + 9 * k) → tag ≡ num8 bs (32 + 9 * k + 1)
-    → Filled (pairs_from count 32 bs) each k → Filled (pairs_from count 32 bs) (set each k (record { station = station; tag = tag })) (k + 1)
-filled_more count k bs each station tag h few s g inv =
-    let ps : List (ℕ × ℕ) = pairs_from count 32 bs in
-    let size : length ps ≡ count = length-pairs_from count 32 bs in
-    let inside : k < length ps = omega arith in
+-- `some` are the first eight
+pub filled_more : (cs some : List (List ℕ)) (k : ℕ) (each : List Pair) (r : Pair) (d : List ℕ) → some ≡ take (min 8 (length cs)) cs → k < length some
+    → r ≡ pair_at (pair_in (get_or some k d)) → Filled (map pair_in cs) each k → Filled (map pair_in cs) (set each k r) (k + 1)
+filled_more cs some k each r d e h q inv =
+    let ps : List (ℕ × ℕ) = map pair_in cs in
+    let size : length some ≡ min 8 (length cs) = ap length e ∙ length-take-le (min 8 (length cs)) cs (omega arith) in
+    let inside : k < length ps = omega (arith, length-map cs pair_in) in
     let front : length (map pair_at (take k ps)) ≡ k = length-map (take k ps) pair_at ∙ length-take-le k ps (omega arith) in
-    let v : ◌≡◌ {A = Pair} (record { station = station; tag = tag }) (pair_at (get_or ps k (0, 0))) =
-    (λ i. record { station = s i; tag = g i }) ∙ sym (ap pair_at (pairs_from-at count 32 k bs (0, 0) h)) in
-    ap₂ (λ x y. set x k y) inv v ∙ fill_more (map pair_at (take k ps)) 8 k (pair_at (get_or ps k (0, 0))) front few
-    ∙ ap (λ r. r ++ replicate (8 - (k + 1)) no_pair) (sym (map_more pair_at ps k (0, 0) inside))
+    let item : get_or some k d ≡ get_or cs k d = ap (λ l. get_or l k d) e ∙ get_or-take (min 8 (length cs)) cs k d (omega arith) in
+    let v : r ≡ pair_at (get_or ps k (0, 0)) = q ∙ ap (λ b. pair_at (pair_in b)) item ∙ sym (ap pair_at (get_or-map pair_in cs k d (0, 0) (omega arith))) in
+    ap₂ (λ x y. set x k y) inv v ∙ fill_more (map pair_at (take k ps)) 8 k (pair_at (get_or ps k (0, 0))) front (omega arith)
+    ∙ ap (λ l. l ++ replicate (8 - (k + 1)) no_pair) (sym (map_more pair_at ps k (0, 0) inside))
 
-pub filled_all : (count k : ℕ) (bs : List ℕ) (each : List Pair) → k ≡ min count 8 → Filled (pairs_from count 32 bs) each k
-    → record { count = count; each = each } ≡ holding count (pairs_from count 32 bs)
-filled_all count k bs each h inv =
-    let ps : List (ℕ × ℕ) = pairs_from count 32 bs in
-    let size : length ps ≡ count = length-pairs_from count 32 bs in
-    let same : take k ps ≡ take 8 ps = ap (λ n. take n ps) (h ∙ ap (λ n. min n 8) (sym size)) ∙ sym (take_least 8 ps) in
-    let long : k ≡ length (map pair_at (take 8 ps)) = h ∙ sym (length-map (take 8 ps) pair_at ∙ length-take 8 ps ∙ omega arith) in
-    let all : each ≡ map pair_at (take 8 ps) ++ replicate (8 - length (map pair_at (take 8 ps))) no_pair =
-    inv ∙ ap₂ (λ x y. map pair_at x ++ replicate (8 - y) no_pair) same long in
-    λ i. record { count = count; each = all i }
+-- parts that were cut
+
+at-cut : (w i j : ℕ) (bs : List ℕ) → j < w → at (take w (drop i bs)) j ≡ at bs (i + j)
+at-cut w i j bs h = get_or-take w (drop i bs) j 0 h ∙ get_or-drop i bs j 0
+
+-- the bytes of a body, one by one
+entry_cut : (bs : List ℕ) → entry_in (take 24 (drop 8 bs)) ≡ entry_of bs
+entry_cut bs =
+    let e : (j : ℕ) → j < 24 → at (take 24 (drop 8 bs)) j ≡ at bs (8 + j) = λ j h. at-cut 24 8 j bs h in
+    λ i. record {
+      grower = (e 0 (lit< tt) i * 256 + e 1 (lit< tt) i) * 65536 + (e 2 (lit< tt) i * 256 + e 3 (lit< tt) i);
+      amount = (e 4 (lit< tt) i * 256 + e 5 (lit< tt) i) * 65536 + (e 6 (lit< tt) i * 256 + e 7 (lit< tt) i);
+      carry = (e 8 (lit< tt) i * 256 + e 9 (lit< tt) i) * 65536 + (e 10 (lit< tt) i * 256 + e 11 (lit< tt) i);
+      figure = (e 12 (lit< tt) i * 256 + e 13 (lit< tt) i) * 65536 + (e 14 (lit< tt) i * 256 + e 15 (lit< tt) i);
+    }
+
+num8-cut : (w i j : ℕ) (bs : List ℕ) → j + 8 ≤ w → num8 (take w (drop i bs)) j ≡ num8 bs (i + j)
+num8-cut w i j bs h =
+    let e : (k : ℕ) → k < w → at (take w (drop i bs)) k ≡ at (drop i bs) k = λ k l. get_or-take w (drop i bs) k 0 l in
+    let half : (k : ℕ) → k + 4 ≤ w → num4 (take w (drop i bs)) k ≡ num4 (drop i bs) k =
+    λ k l q. (e k (omega arith) q * 256 + e (k + 1) (omega arith) q) * 65536 + (e (k + 2) (omega arith) q * 256 + e (k + 2 + 1) (omega arith) q) in
+    ap₂ (λ x y. x * 4294967296 + y) (half j (omega arith)) (half (j + 4) (omega arith)) ∙ num8-drop bs i j
+
+pair_cut : (i : ℕ) (bs : List ℕ) → pair_in (take 9 (drop i bs)) ≡ (at bs i, num8 bs (i + 1))
+pair_cut i bs = let e : i + 0 ≡ i = omega arith in λ q. ((at-cut 9 i 0 bs (lit< tt) ∙ ap (at bs) e) q, num8-cut 9 i 1 bs (omega arith) q)
+
+pairs_cut : (m i : ℕ) (bs : List ℕ) → map pair_in (first_chunks 9 m (drop i bs)) ≡ pairs_from m i bs
+pairs_cut zero i bs = refl
+pairs_cut (suc m) i bs =
+    λ q. pair_cut i bs q ∷ (ap (λ l. map pair_in (first_chunks 9 m l)) (drop-drop 9 i bs) ∙ pairs_cut m (i + 9) bs) q
+
+chunks : (m : ℕ) (xs : List ℕ) → length (first_chunks 9 m xs) ≡ m
+chunks zero xs = refl
+chunks (suc m) xs = ap suc (chunks m (drop 9 xs))
+
+exact_length : (long m left count : ℕ) → long ≡ 32 + 9 * m + left → left < 9 → (eqb m count and eqb left 0) ≡ eqb long (32 + 9 * count)
+exact_length long m left count e l = grind (arith, nat_tests)
+
+module _ (bs body : List ℕ) (cs : List (List ℕ)) (left : List ℕ) (cut : Cut bs body cs left) where
+  room : length cs ≡ (length bs - 32) / 9
+  room = ap length cut.nines ∙ chunks ((length bs - 32) / 9) (drop 32 bs)
+
+  -- the tests of the parts are those of the bytes
+  parts_same : (kind count : ℕ) → parts_tests kind count body (length cs) (length left) (length bs) ≡ body_tests kind count bs
+  parts_same kind count =
+      let blank : list_all (λ b. eqb b 0) (take 16 body) ≡ all_zero (take 16 (drop 8 bs)) =
+      sym (blank_is (take 16 body)) ∙ ap (λ l. all_zero (take 16 l)) cut.front ∙ ap all_zero (take-take 16 24 (drop 8 bs) (omega arith)) in
+      let exact : (eqb (length cs) count and eqb (length left) 0) ≡ eqb (length bs) (32 + 9 * count) = exact_length (length bs) (length cs) (length left) count (omega (arith, cut.long, cut.behind, room)) (omega (arith, cut.behind)) in
+      λ i. (cond (eqb kind 3) (blank i) true, 8) ∷ (exact i, length bs) ∷ []
+
+  -- where they pass, there are as many pairs as the head says
+  pairs_same : (count : ℕ) → length bs ≡ 32 + 9 * count → map pair_in cs ≡ pairs_from count 32 bs
+  pairs_same count h =
+      let e : (length bs - 32) / 9 ≡ count = omega arith in
+      ap (map pair_in) cut.nines ∙ pairs_cut ((length bs - 32) / 9) 32 bs ∙ ap (λ m. pairs_from m 32 bs) e
 
 -- a chain of tests
 
@@ -168,14 +185,14 @@ module _ (n t batches : ℕ) (bs : List ℕ) where
       pub after_body : first_fault (body_tests (kind_of bs) (count_of bs) bs) ≡ None → malformed n t batches bs ≡ first_fault (rising_tests n 0 32 (pairs_of bs))
       after_body e = after_counts ∙ ap (after (rising_tests n 0 32 (pairs_of bs))) e
 
--- decoding, part by part: `h` is the head that was read
+-- decoding, part by part: `h` is the head that was read, and the others are the parts behind it
 module _ (n t batches : ℕ) (bs : List ℕ) where
   pub decode_head : (x : Fault) → Err x ≡ held_to (first_fault (head_tests n batches bs)) (head_of bs) → decoded n t batches bs ≡ Err x
   decode_head x e =
       let p = refused (first_fault (head_tests n batches bs)) (head_of bs) x e in
       decoded_fails n t batches bs p.0 x (fails_head n t batches bs p.0 p.1) p.2
 
-  module _ (h : Head) (read : Ok h ≡ held_to (first_fault (head_tests n batches bs)) (head_of bs)) where
+  module _ (h : Head) (body : List ℕ) (cs : List (List ℕ)) (left : List ℕ) (read : Ok h ≡ held_to (first_fault (head_tests n batches bs)) (head_of bs)) (cut : Cut bs body cs left) where
     passed : first_fault (head_tests n batches bs) ≡ None
     passed = (held (first_fault (head_tests n batches bs)) (head_of bs) h read).0
 
@@ -193,19 +210,16 @@ module _ (n t batches : ℕ) (bs : List ℕ) where
     counted = first_fault (count_tests t (kind_number h.kind) h.number h.count h.zero)
 
     abbrev pub bodied : Option ℕ
-    bodied = first_fault (body_tests (kind_number h.kind) h.count bs)
+    bodied = first_fault (parts_tests (kind_number h.kind) h.count body (length cs) (length left) (length bs))
 
     abbrev pub rising : Option ℕ
-    rising = first_fault (rising_tests n 0 32 (pairs_from h.count 32 bs))
+    rising = first_fault (rising_tests n 0 32 (map pair_in cs))
 
     counted_is : counted ≡ first_fault (count_tests t (kind_of bs) (number_of bs) (count_of bs) (at bs 7))
     counted_is = λ i. first_fault (count_tests t (kind i) (whole i).number (count i) (whole i).zero)
 
     bodied_is : bodied ≡ first_fault (body_tests (kind_of bs) (count_of bs) bs)
-    bodied_is = λ i. first_fault (body_tests (kind i) (count i) bs)
-
-    rising_is : rising ≡ first_fault (rising_tests n 0 32 (pairs_of bs))
-    rising_is = λ i. first_fault (rising_tests n 0 32 (pairs_from (count i) 32 bs))
+    bodied_is = ap first_fault (parts_same bs body cs left cut (kind_number h.kind) h.count) ∙ (λ i. first_fault (body_tests (kind i) (count i) bs))
 
     pub decode_counts : (x : Fault) → Err x ≡ held_to {A = Unit {0}} counted tt → decoded n t batches bs ≡ Err x
     decode_counts x e =
@@ -221,30 +235,35 @@ module _ (n t batches : ℕ) (bs : List ℕ) where
           let p = refused {A = Unit {0}} bodied tt x e in
           decoded_fails n t batches bs p.0 x (fails_body n t batches bs passed fits p.0 (sym bodied_is ∙ p.1)) p.2
 
-      module _ (v : Unit {0}) (body : Ok v ≡ held_to {A = Unit {0}} bodied tt) where
-        left : malformed n t batches bs ≡ rising
-        left = after_body n t batches bs passed fits (sym bodied_is ∙ (held {A = Unit {0}} bodied tt v body).0) ∙ sym rising_is
+      module _ (v : Unit {0}) (long : Ok v ≡ held_to {A = Unit {0}} bodied tt) where
+        sound : first_fault (body_tests (kind_of bs) (count_of bs) bs) ≡ None
+        sound = sym bodied_is ∙ (held {A = Unit {0}} bodied tt v long).0
+
+        pairs : map pair_in cs ≡ pairs_of bs
+        pairs = pairs_same bs body cs left cut (count_of bs) (eqb-true _ _ (first_fault_all (body_tests (kind_of bs) (count_of bs) bs) sound).1.0)
+
+        left_over : malformed n t batches bs ≡ rising
+        left_over = after_body n t batches bs passed fits sound ∙ ap (λ ps. first_fault (rising_tests n 0 32 ps)) (sym pairs)
 
         pub decode_pairs : (x : Fault) → Err x ≡ held_to {A = Unit {0}} rising tt → decoded n t batches bs ≡ Err x
         decode_pairs x e =
             let p = refused {A = Unit {0}} rising tt x e in
-            decoded_fails n t batches bs p.0 x (left ∙ p.1) p.2
+            decoded_fails n t batches bs p.0 x (left_over ∙ p.1) p.2
 
-        pub decode_all : (w : Unit {0}) → Ok w ≡ held_to {A = Unit {0}} rising tt → (h ≡ head_of bs) × (decoded n t batches bs ≡ Ok (frame_of bs))
-        decode_all w pairs = (whole, decoded-holds n t batches bs (left ∙ (held {A = Unit {0}} rising tt w pairs).0))
+        same_frame : frame_in h body cs ≡ frame_of bs
+        unfolding frame_of
+        same_frame =
+            let entry : entry_in body ≡ entry_of bs = ap entry_in cut.front ∙ entry_cut bs in
+            let tag : tag_in body ≡ tag_of bs = ap tag_in cut.front ∙ num8-cut 24 8 16 bs (omega arith) in
+            λ i. record {
+              kind = (whole i).kind;
+              sender = (whole i).sender;
+              batch = (whole i).batch;
+              number = (whole i).number;
+              entry = entry i;
+              tag = tag i;
+              pairs = holding (whole i).count (pairs i);
+            }
 
--- the frame, by its head and the rest
-pub frame_read : (bs : List ℕ) (h : Head) → h ≡ head_of bs → (e : Entry) (g : ℕ) (ps : Pairs) → e ≡ entry_of bs → g ≡ tag_of bs
-    → ps ≡ holding h.count (pairs_from h.count 32 bs)
-    → record { kind = h.kind; sender = h.sender; batch = h.batch; number = h.number; entry = e; tag = g; pairs = ps } ≡ frame_of bs
-unfolding frame_of
-frame_read bs h whole e g ps p q s =
-    λ i. record {
-      kind = (whole i).kind;
-      sender = (whole i).sender;
-      batch = (whole i).batch;
-      number = (whole i).number;
-      entry = p i;
-      tag = q i;
-      pairs = (s ∙ ap (λ (x : Head). holding x.count (pairs_from x.count 32 bs)) whole) i;
-    }
+        pub decode_all : (w : Unit {0}) → Ok w ≡ held_to {A = Unit {0}} rising tt → decoded n t batches bs ≡ Ok (frame_in h body cs)
+        decode_all w rise = decoded-holds n t batches bs (left_over ∙ (held {A = Unit {0}} rising tt w rise).0) ∙ ap Ok (sym same_frame)

@@ -24,10 +24,6 @@ begun_more f ps k h =
     ∙ ap (λ r. stated f ++ be8 f.tag ++ r) (pair_bytes_append (map plain (take k ps)) (plain (get_or ps k no_pair) ∷ []))
     ∙ sym (append_assoc (stated f ++ be8 f.tag) (pair_bytes (map plain (take k ps))) ((get_or ps k no_pair).station ∷ be8 (get_or ps k no_pair).tag))
 
--- the statement and the tag
-pub encode_first : (f : Frame) (s w : List ℕ) (r : FrameBytes) → s ≡ stated f → w ≡ be8 f.tag → r ≡ packed (take 104 (s ++ w)) → r ≡ packed (begun f [])
-encode_first f s w r p q e = e ∙ ap₂ (λ x y. packed (take 104 (x ++ y))) p q
-
 -- one pair more
 pub encode_more : (f : Frame) (ps : List Pair) (k : ℕ) (b r : FrameBytes) (s w : List ℕ) → k < length ps → length ps ≤ 8
     → b ≡ packed (begun f (take k ps)) → s ≡ unpacked b → w ≡ ((get_or ps k no_pair).station ∷ be8 (get_or ps k no_pair).tag)

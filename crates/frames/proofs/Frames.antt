@@ -1,14 +1,13 @@
 -- Frames: what is read from a frame that was written, and how a frame that is read was written.
-use Rattle.std.proofs.Common.{◌≡◌, ℕ, zero, suc, ◌+◌, ◌-◌, ◌*◌, ◌^◌, ◌<◌, ◌≤◌, true, false, ltb, leb, List, [], ◌∷◌, ◌++◌, length, get_or, take, drop, replicate, Some, sym, refl, ap, ◌∙◌, subst, ap₂, ⊎_elim, add-zero, arith}
+use Rattle.std.proofs.Common.{◌≡◌, ℕ, zero, suc, ◌+◌, ◌*◌, ◌^◌, ◌<◌, ◌≤◌, List, [], ◌∷◌, ◌++◌, length, get_or, take, drop, replicate, sym, refl, ap, ◌∙◌, subst, ap₂, add-zero, arith}
 use Rattle.std.specs.List.{AllByRecursion}
-use Rattle.std.proofs.lemmas.Bool.{eq-eqb, cases_lt, ne_eqb}
-use Rattle.std.proofs.lemmas.Bool.Decides.{nat_tests}
+use Rattle.std.proofs.lemmas.Bool.{eq-eqb, ne_eqb}
 use Rattle.std.proofs.lemmas.List.{length-append, append_assoc, take_at, drop_at, drop-drop, drop_all, get_or-drop}
 use Rattle.std.proofs.ByRecursion.{All-append}
 use Rattle.base.specs.declared.book.Entry.{Entry}
 use Rattle.frames.specs.Bytes.{byte, be4, be8, entry_bytes, statement, proposes, reselects, pair_bytes}
 use Rattle.frames.specs.Certificates.{Rising, Fits}
-use Rattle.frames.specs.Frames.{at, num8, entry_of, kind_of, sender_of, batch_of, number_of, count_of, tag_of, pairs_from, pairs_of, pair_states, first_fault, rising_tests, ◌and◌}
+use Rattle.frames.specs.Frames.{at, num8, entry_of, kind_of, sender_of, batch_of, number_of, count_of, tag_of, pairs_from, pairs_of, pair_states}
 use Rattle.frames.proofs.Numbers.{Bytes, be2_bytes, be4_bytes, be8_bytes, num2-be2, num4-be4, num8-at, be2-num2, be4-num4, be8-num8, take-read, drop-read}
 use Rattle.frames.proofs.Formed.{Formed}
 
@@ -25,31 +24,6 @@ length-pair_bytes (p ∷ ps) = omega (arith, length-pair_bytes ps)
 pub length-pairs_from : (m i : ℕ) (bs : List ℕ) → length (pairs_from m i bs) ≡ m
 length-pairs_from zero i bs = refl
 length-pairs_from (suc m) i bs = ap suc (length-pairs_from m (i + 9) bs)
-
--- one turn of a loop over the pairs, for code that reads them
-pub pairs_from_more : (m i : ℕ) (bs : List ℕ) → 1 ≤ m → pairs_from m i bs ≡ (at bs i, num8 bs (i + 1)) ∷ pairs_from (m - 1) (i + 9) bs
-pairs_from_more zero i bs h = absurd (omega arith)
-pairs_from_more (suc m) i bs h =
-    let e : m ≡ suc m - 1 = omega arith in ap (λ k. (at bs i, num8 bs (i + 1)) ∷ pairs_from k (i + 9) bs) e
-
-rising-turn : (n low place m : ℕ) (bs : List ℕ) → 1 ≤ m
-    → first_fault (rising_tests n low place (pairs_from m place bs))
-    ≡ elim (ltb (at bs place) n and leb low (at bs place))
-    [ true ↦ first_fault (rising_tests n (at bs place + 1) (place + 9) (pairs_from (m - 1) (place + 9) bs)) | false ↦ Some place ]
-rising-turn n low place m bs h = ap (λ ps. first_fault (rising_tests n low place ps)) (pairs_from_more m place bs h)
-
-pub rising_stops : (n low place m : ℕ) (bs : List ℕ) → 1 ≤ m → (at bs place < n → low ≤ at bs place → ⊥)
-    → first_fault (rising_tests n low place (pairs_from m place bs)) ≡ Some place
-rising_stops n low place m bs h c =
-    let e : (ltb (at bs place) n and leb low (at bs place)) ≡ false = ⊎_elim (λ p. grind (arith, nat_tests)) (λ p. grind (arith, nat_tests)) (cases_lt (at bs place) n) in
-    rising-turn n low place m bs h ∙ rw e refl
-
-pub rising_more : (n low place m : ℕ) (bs : List ℕ) → 1 ≤ m → at bs place < n → low ≤ at bs place
-    → first_fault (rising_tests n low place (pairs_from m place bs))
-    ≡ first_fault (rising_tests n (at bs place + 1) (place + 9) (pairs_from (m - 1) (place + 9) bs))
-rising_more n low place m bs h p q =
-    let e : (ltb (at bs place) n and leb low (at bs place)) ≡ true = grind (arith, nat_tests) in
-    rising-turn n low place m bs h ∙ rw e refl
 
 pub pairs_from_bytes : (bs : List ℕ) (i : ℕ) (ps : List (ℕ × ℕ)) → AllByRecursion (λ p. p.1 < 2 ^ 64) ps → drop i bs ≡ pair_bytes ps
     → pairs_from (length ps) i bs ≡ ps

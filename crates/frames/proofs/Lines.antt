@@ -4,7 +4,6 @@ use Rattle.std.specs.List.{AllByRecursion}
 use Rattle.std.proofs.lemmas.Bool.{ltb-true, lt-ltb, le-ltb}
 use Rattle.std.proofs.lemmas.Bool.Decides.{nat_tests}
 use Rattle.std.proofs.lemmas.List.{at_drop_more, drop_more, take_more_set, append_assoc}
-use Rattle.std.proofs.ByRecursion.{All-get_or}
 use Rattle.frames.specs.Frames.{digit, hex, ◌and◌, nibble, first_wrong, unhex, line_fault}
 use Rattle.frames.proofs.Numbers.{Bytes}
 use Rattle.frames.proofs.Basics.{passed}
@@ -121,9 +120,6 @@ pub unhex_more : (l : List ℕ) (k : ℕ) → 2 * k + 1 < length l
 unhex_more l k h =
     let e : 2 * k + 1 + 1 ≡ 2 * (k + 1) = omega arith in
     ap unhex (drop_more l (2 * k) 0 (omega arith) ∙ ap (λ r. get_or l (2 * k) 0 ∷ r) (drop_more l (2 * k + 1) 0 h ∙ ap (λ n. get_or l (2 * k + 1) 0 ∷ drop n l) e))
-
-pub digits_at : (l : List ℕ) (i : ℕ) → first_wrong 0 l ≡ None → i < length l → nibble (get_or l i 0) < 16
-digits_at l i e h = All-get_or (λ x. nibble x < 16) l i 0 h (first_wrong_all 0 l e)
 
 -- `out` holds the first k bytes, and the next is written
 pub unhex-turn : (l out : List ℕ) (k a b : ℕ) → 2 * k + 1 < length l → k < length out → a ≡ nibble (get_or l (2 * k) 0) → b ≡ nibble (get_or l (2 * k + 1) 0)

@@ -60,11 +60,6 @@ be8-join hi lo h =
     cc
 
 -- for code that writes one half after the other
-pub be2_split : (x : ℕ) → x < 2 ^ 16 → be2 x ≡ x / 256 ∷ x % 256 ∷ []
-be2_split x h =
-    let p₁ : byte 1 x ≡ x / 256 = omega arith in
-    let p₀ : byte 0 x ≡ x % 256 = omega arith in
-    cc
 
 pub be4_split : (x : ℕ) → be4 x ≡ be2 (x / 65536) ++ be2 (x % 65536)
 be4_split x =
@@ -92,7 +87,7 @@ num8-be8 x r h =
     let q = num4-be4 (x % 4294967296) r (omega arith) in
     ap (λ l. num8 (l ++ r) 0) (be8_split x) ∙ ap₂ (λ a b. a * 4294967296 + b) p q ∙ omega arith
 
-num8-drop : (bs : List ℕ) (i j : ℕ) → num8 (drop i bs) j ≡ num8 bs (i + j)
+pub num8-drop : (bs : List ℕ) (i j : ℕ) → num8 (drop i bs) j ≡ num8 bs (i + j)
 num8-drop bs i j = simp (get_or-drop, add_assoc)
 
 pub num8-at : (bs r : List ℕ) (i x : ℕ) → x < 2 ^ 64 → drop i bs ≡ be8 x ++ r → num8 bs i ≡ x
@@ -104,9 +99,6 @@ num2_lt bs i h = omega (arith, at_lt bs i h, at_lt bs (i + 1) h)
 
 pub num4_lt : (bs : List ℕ) (i : ℕ) → Bytes bs → num4 bs i < 2 ^ 32
 num4_lt bs i h = omega (arith, num2_lt bs i h, num2_lt bs (i + 2) h)
-
-pub num8_lt : (bs : List ℕ) (i : ℕ) → Bytes bs → num8 bs i < 2 ^ 64
-num8_lt bs i h = omega (arith, num4_lt bs i h, num4_lt bs (i + 4) h)
 
 pub be2-num2 : (bs : List ℕ) (i : ℕ) → Bytes bs → be2 (num2 bs i) ≡ read 2 i bs
 be2-num2 bs i h =

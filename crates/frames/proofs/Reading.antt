@@ -1,31 +1,32 @@
 -- Lines as they are read and written by code: one digit, one turn of a loop, and the whole.
-use Rattle.std.proofs.Common.{◌≡◌, ℕ, zero, suc, ◌+◌, ◌-◌, ◌*◌, ◌/◌, ◌%◌, ◌<◌, ◌≤◌, Bool, true, false, cond, eqb, ltb, leb, List, [], ◌∷◌, ◌++◌, length, get_or, take, drop, set, replicate, Some, None, Ok, Err, Option, Result, sym, refl, ap, ◌∙◌, ap₂, add-one, arith}
+use Rattle.std.proofs.Common.{◌≡◌, ℕ, zero, suc, ◌+◌, ◌-◌, ◌*◌, ◌/◌, ◌%◌, ◌<◌, ◌≤◌, Bool, true, false, cond, eqb, ltb, leb, List, [], ◌∷◌, ◌++◌, length, get_or, take, drop, set, replicate, Some, None, Ok, Err, Option, Result, sym, refl, ap, subst, ◌∙◌, ap₂, add-one, arith, lit<}
 use Rattle.std.proofs.lemmas.Bool.{ltb-true, ltb-false}
-use Rattle.std.proofs.lemmas.List.{append_assoc, append-nil, drop_all, drop_at, drop-drop, drop-replicate, drop-set-lt, length-append, length-drop, length-set, length-take-le, take_all, take_at, take-append-drop, take_more}
+use Rattle.std.proofs.lemmas.List.{append_assoc, append-nil, drop_all, drop_at, drop-drop, drop-replicate, drop-set-lt, get_or-drop, get_or-take, length-append, length-drop, length-set, length-take-le, take_all, take_at, take-append-drop, take_more}
+use Rattle.std.specs.Simd.{first_chunks}
 use Rattle.base.specs.declared.fault.Fault.{Fault}
 use Rattle.base.specs.declared.refusal.Refusal.TheVariants.{BadLine}
 use Rattle.base.specs.Refusals.{fault_at}
 use Rattle.frames.specs.declared.bytes.FrameBytes.{FrameBytes}
 use Rattle.frames.specs.Frames.{◌and◌, nibble, digit, first_wrong, unhex, hex, line_fault}
-use Rattle.frames.specs.Packed.{packed, Sized, line_read, OneLine}
+use Rattle.frames.specs.Packed.{packed, Sized, digit_read, line_read, OneLine}
 use Rattle.frames.proofs.Lines.{wrong_stops, wrong_more, unhex-turn, length-hex, sized_ok, sized_says, line_hex, unhex-hex, hex_of_line}
 use Rattle.frames.proofs.Numbers.{Bytes}
 
--- one digit
+-- one digit: x is the character y of a line
 
-pub digit_ok : (v place d : ℕ) → ◌≡◌ {A = Result ℕ Fault} (Ok d) (cond (ltb v 16) (Ok v) (Err (fault_at BadLine place))) → (v < 16) × (d ≡ v)
-digit_ok v place d e = go (ltb v 16) refl e
+pub digit_ok : (x y place d : ℕ) → x ≡ y → Ok d ≡ digit_read x place → (nibble y < 16) × (d ≡ nibble y)
+digit_ok x y place d same e = go (ltb (nibble y) 16) refl (subst (λ z. Ok d ≡ digit_read z place) same e)
   where
-    go : (b : Bool) → ltb v 16 ≡ b → ◌≡◌ {A = Result ℕ Fault} (Ok d) (cond b (Ok v) (Err (fault_at BadLine place))) → (v < 16) × (d ≡ v)
-    go true t e = (ltb-true v 16 t, cc)
+    go : (b : Bool) → ltb (nibble y) 16 ≡ b → ◌≡◌ {A = Result ℕ Fault} (Ok d) (cond b (Ok (nibble y)) (Err (fault_at BadLine place))) → (nibble y < 16) × (d ≡ nibble y)
+    go true t e = (ltb-true (nibble y) 16 t, cc)
     go false t e = absurd (let z : ◌≡◌ {A = ℕ} 0 1 = cc in omega arith)
 
-pub digit_err : (v place : ℕ) (x : Fault) → ◌≡◌ {A = Result ℕ Fault} (Err x) (cond (ltb v 16) (Ok v) (Err (fault_at BadLine place))) → (16 ≤ v) × (x ≡ fault_at BadLine place)
-digit_err v place x e = go (ltb v 16) refl e
+pub digit_err : (x y place : ℕ) (f : Fault) → x ≡ y → Err f ≡ digit_read x place → (16 ≤ nibble y) × (f ≡ fault_at BadLine place)
+digit_err x y place f same e = go (ltb (nibble y) 16) refl (subst (λ z. Err f ≡ digit_read z place) same e)
   where
-    go : (b : Bool) → ltb v 16 ≡ b → ◌≡◌ {A = Result ℕ Fault} (Err x) (cond b (Ok v) (Err (fault_at BadLine place))) → (16 ≤ v) × (x ≡ fault_at BadLine place)
+    go : (b : Bool) → ltb (nibble y) 16 ≡ b → ◌≡◌ {A = Result ℕ Fault} (Err f) (cond b (Ok (nibble y)) (Err (fault_at BadLine place))) → (16 ≤ nibble y) × (f ≡ fault_at BadLine place)
     go true t e = absurd (let z : ◌≡◌ {A = ℕ} 0 1 = cc in omega arith)
-    go false t e = (ltb-false v 16 t, cc)
+    go false t e = (ltb-false (nibble y) 16 t, cc)
 
 -- reading
 
@@ -52,15 +53,29 @@ pub read_right : (l : List ℕ) → Sized l → first_wrong 0 l ≡ None → lin
 unfolding line_read
 read_right l s e = ap (outcome l) (sized_fault l s ∙ e)
 
+-- a line in pairs of digits
+twos_at : (m k : ℕ) (xs d : List ℕ) → k < m → get_or (first_chunks 2 m xs) k d ≡ take 2 (drop (2 * k) xs)
+twos_at zero k xs d h = absurd (omega arith)
+twos_at (suc m) zero xs d h = refl
+twos_at (suc m) (suc k) xs d h =
+    let e : 2 + 2 * k ≡ 2 * suc k = omega arith in
+    twos_at m k (drop 2 xs) d (omega arith) ∙ ap (take 2) (drop-drop (2 * k) 2 xs ∙ ap (λ n. drop n xs) e)
+
+pub digits_of : (l : List ℕ) (ps : List (List ℕ)) (k : ℕ) (d : List ℕ) → ps ≡ first_chunks 2 (length l / 2) l → k < length l / 2
+    → (get_or (get_or ps k d) 0 0 ≡ get_or l (2 * k) 0) × (get_or (get_or ps k d) 1 0 ≡ get_or l (2 * k + 1) 0)
+digits_of l ps k d e h =
+    let two : get_or ps k d ≡ take 2 (drop (2 * k) l) = ap (λ x. get_or x k d) e ∙ twos_at (length l / 2) k l d h in
+    let at : (j : ℕ) → j < 2 → get_or (get_or ps k d) j 0 ≡ get_or l (2 * k + j) 0 =
+    λ j b. ap (λ x. get_or x j 0) two ∙ get_or-take 2 (drop (2 * k) l) j 0 b ∙ get_or-drop (2 * k) l j 0 in
+    let z : 2 * k + 0 ≡ 2 * k = omega arith in
+    (at 0 (lit< tt) ∙ ap (λ n. get_or l n 0) z, at 1 (lit< tt))
+
 -- k bytes are read: their digits are right, they stand in front and zeros behind
 pub record Begun (l out : List ℕ) (k : ℕ) : Type 0 where
   pub right : first_wrong (2 * k) (drop (2 * k) l) ≡ first_wrong 0 l
   pub front : take k out ++ unhex (drop (2 * k) l) ≡ unhex l
   pub behind : drop k out ≡ replicate (104 - k) 0
   pub size : length out ≡ 104
-
-pub begun_none : (l : List ℕ) → Begun l (replicate 104 0) 0
-begun_none l = record { right = refl; front = refl; behind = refl; size = refl }
 
 -- the first digit of the next byte is wrong, or its second
 pub begun_first : (l out : List ℕ) (k : ℕ) → Begun l out k → 2 * k < length l → 16 ≤ nibble (get_or l (2 * k) 0) → first_wrong 0 l ≡ Some (2 * k)
@@ -83,14 +98,14 @@ begun_more l out k x y b h o p q =
       size = simp length-set b.size;
     }
 
-pub begun_all : (l out : List ℕ) (k : ℕ) → Sized l → Begun l out k → k ≡ length l / 2 → Ok (record { len = length l / 2; bytes = out }) ≡ line_read l
-begun_all l out k s b h =
+pub begun_all : (l out : List ℕ) (k size : ℕ) → Sized l → Begun l out k → k ≡ length l / 2 → size ≡ k → Ok (record { len = size; bytes = out }) ≡ line_read l
+begun_all l out k last s b h z =
     let none : drop (2 * k) l ≡ [] = drop_all (2 * k) l (omega (arith, s.even)) in
     let bytes : take k out ≡ unhex l = sym (append-nil (take k out)) ∙ ap (λ r. take k out ++ unhex r) (sym none) ∙ b.front in
     let size : k ≡ length (unhex l) = sym (length-take-le k out (omega (arith, b.size, s.high))) ∙ ap length bytes in
     let whole : out ≡ unhex l ++ replicate (104 - length (unhex l)) 0 =
     sym (take-append-drop k out) ∙ ap₂ (λ x y. x ++ y) bytes (b.behind ∙ ap (λ n. replicate (104 - n) 0) size) in
-    sym (read_right l s (sym b.right ∙ ap (first_wrong (2 * k)) none) ∙ sym (λ i. Ok (record { len = (sym h ∙ size) i; bytes = whole i })))
+    sym (read_right l s (sym b.right ∙ ap (first_wrong (2 * k)) none) ∙ sym (λ i. Ok (record { len = (z ∙ size) i; bytes = whole i })))
 
 -- writing
 

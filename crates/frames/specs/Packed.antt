@@ -1,5 +1,5 @@
 -- The bytes of a frame in a place of 104, and what comes of reading and writing a line.
-use Rattle.std.specs.Prelude.{◌≡◌, ℕ, ◌-◌, ◌*◌, ◌%◌, ◌≤◌, min, cond, List, ◌++◌, length, take, drop, replicate, Some, None, Ok, Err, Result, nat_le, nat_lt, slice_index}
+use Rattle.std.specs.Prelude.{◌≡◌, ℕ, ◌-◌, ◌*◌, ◌%◌, ◌≤◌, min, cond, List, ◌++◌, length, take, drop, replicate, Some, None, Ok, Err, Result, nat_le, nat_lt}
 use Rattle.base.specs.declared.fault.Fault.{Fault}
 use Rattle.base.specs.declared.refusal.Refusal.TheVariants.{BadLine, ShortBuffer}
 use Rattle.base.specs.Refusals.{fault_at}
@@ -13,9 +13,9 @@ packed bs = record { len = length bs; bytes = bs ++ replicate (104 - length bs) 
 abbrev pub unpacked : FrameBytes → List ℕ
 unpacked p = take (min p.len 104) p.bytes
 
--- what reading the digit at a place gives
-abbrev pub digit_read : List ℕ → ℕ → Result ℕ Fault
-digit_read l place = let v : ℕ = nibble (slice_index l place) in cond (nat_lt v 16) (Ok v) (Err (fault_at BadLine place))
+-- what reading the digit x at a place gives
+abbrev pub digit_read : ℕ → ℕ → Result ℕ Fault
+digit_read x place = let v : ℕ = nibble x in cond (nat_lt v 16) (Ok v) (Err (fault_at BadLine place))
 
 -- a line's length is right
 pub record Sized (l : List ℕ) : Type 0 where

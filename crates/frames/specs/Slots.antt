@@ -1,5 +1,5 @@
 -- The slots of a pool: the frame that one holds, where a frame goes, and what steps issued.
-use Rattle.std.specs.Prelude.{ℕ, suc, ◌+◌, ◌-◌, min, Bool, true, false, cond, List, [], ◌∷◌, ◌++◌, length, take, replicate, ◌==◌, nat_eq, nat_le, slice_index_or}
+use Rattle.std.specs.Prelude.{ℕ, suc, ◌+◌, ◌-◌, min, Bool, true, false, cond, List, [], ◌∷◌, ◌++◌, length, take, replicate, Some, None, Option, ◌==◌, nat_eq, nat_le, nat_lt, slice_index_or}
 use Rattle.frames.specs.declared.slot.Slot.{Slot}
 use Rattle.frames.specs.declared.pool.Room.{Room}
 use Rattle.frames.specs.Frames.{◌and◌, ◌or◌}
@@ -30,9 +30,13 @@ abbrev pub first_free : List Slot → ℕ
 first_free [] = 0
 first_free (s ∷ ss) = elim (s.len == 0) [ true ↦ 0 | false ↦ suc (first_free ss) ]
 
+-- that place, where there is one
+abbrev pub lowest_free : List Slot → Option ℕ
+lowest_free pool = let k : ℕ = first_free pool in cond (nat_lt k (length pool)) (Some k) None
+
 -- that place, and how many slots are empty, counted up to three
 abbrev pub room_of : List Slot → Room
-room_of pool = record { lowest = first_free pool; empty = min (free pool) 3 }
+room_of pool = record { lowest = lowest_free pool; empty = min (free pool) 3 }
 
 -- a slot that holds a frame, put there by a step (0) or from outside (1)
 abbrev pub slot_of : ℕ → List ℕ → Slot

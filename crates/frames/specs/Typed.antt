@@ -1,5 +1,7 @@
 -- Frames by their fields: the frame that some bytes are, the bytes of a frame, and what its tags seal.
-use Rattle.std.specs.Prelude.{ℕ, ◌+◌, ◌-◌, ◌*◌, ◌^◌, ◌<◌, min, Bool, true, cond, leb, List, [], ◌∷◌, ◌++◌, map, length, take, drop, replicate, Some, None, Ok, Err, Option, Result, ◌==◌, nat_le, nat_lt}
+use Rattle.std.specs.Prelude.{◌≡◌, ℕ, ◌+◌, ◌-◌, ◌*◌, ◌/◌, ◌%◌, ◌^◌, ◌<◌, ◌≤◌, min, Bool, true, cond, leb, List, [], ◌∷◌, ◌++◌, map, length, take, drop, replicate, Some, None, Ok, Err, Option, Result, ◌==◌, nat_le, nat_lt}
+use Rattle.std.specs.List.{list_all}
+use Rattle.std.specs.Simd.{first_chunks}
 use Rattle.base.specs.declared.book.Entry.{Entry}
 use Rattle.base.specs.declared.fault.Fault.{Fault}
 use Rattle.base.specs.declared.refusal.Refusal.TheVariants.{Malformed}
@@ -11,7 +13,7 @@ use Rattle.frames.specs.declared.frame.Pairs.{Pairs}
 use Rattle.frames.specs.declared.frame.Frame.{Frame}
 use Rattle.frames.specs.declared.decode.Head.{Head}
 use Rattle.frames.specs.Bytes.{be8, entry_bytes, statement, proposes, reselects, pair_bytes}
-use Rattle.frames.specs.Frames.{◌and◌, kind_of, sender_of, batch_of, number_of, count_of, entry_of, tag_of, pairs_of, all_zero, at}
+use Rattle.frames.specs.Frames.{◌and◌, kind_of, sender_of, batch_of, number_of, count_of, entry_of, tag_of, pairs_of, all_zero, at, num4, num8}
 use Rattle.frames.specs.Certificates.{Fits, malformed}
 use Rattle.frames.specs.Packed.{unpacked, line_read}
 
@@ -96,6 +98,40 @@ head_of bs = record {
   number = number_of bs;
   count = count_of bs;
   zero = at bs 7;
+}
+
+-- what stands behind a head, from its first byte on: the entry and the tag, and a pair
+abbrev pub entry_in : List ℕ → Entry
+entry_in b = record { grower = num4 b 0; amount = num4 b 4; carry = num4 b 8; figure = num4 b 12 }
+
+abbrev pub tag_in : List ℕ → ℕ
+tag_in b = num8 b 16
+
+abbrev pub pair_in : List ℕ → ℕ × ℕ
+pair_in b = (at b 0, num8 b 1)
+
+-- some bytes, cut behind the head: 24, pairs of nine, and what is left
+pub record Cut (bs body : List ℕ) (pairs : List (List ℕ)) (left : List ℕ) : Type 0 where
+  pub long : 32 ≤ length bs
+  pub front : body ≡ take 24 (drop 8 bs)
+  pub nines : pairs ≡ first_chunks 9 ((length bs - 32) / 9) (drop 32 bs)
+  pub behind : length left ≡ (length bs - 32) % 9
+
+-- the tests of those parts before the pairs
+abbrev pub parts_tests : ℕ → ℕ → List ℕ → ℕ → ℕ → ℕ → List (Bool × ℕ)
+parts_tests kind count body pairs left long =
+    (cond (kind == 3) (list_all (λ b. b == 0) (take 16 body)) true, 8) ∷ ((pairs == count) and (left == 0), long) ∷ []
+
+-- the frame of some parts
+abbrev pub frame_in : Head → List ℕ → List (List ℕ) → Frame
+frame_in h body pairs = record {
+  kind = h.kind;
+  sender = h.sender;
+  batch = h.batch;
+  number = h.number;
+  entry = entry_in body;
+  tag = tag_in body;
+  pairs = holding h.count (map pair_in pairs);
 }
 
 -- what decoding gives

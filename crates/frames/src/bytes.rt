@@ -1,16 +1,24 @@
 // The bytes of one frame, in a place of fixed size.
-ghost use Rattle.std.specs.Prelude.{◌≡◌, ◌+◌, ◌≤◌, ◌++◌, length, take};
+ghost use Rattle.std.specs.Prelude.{◌≡◌, ◌+◌, ◌≤◌, ◌++◌, min, length, take};
 ghost use Rattle.std.proofs.Math.Seq.{paste};
 ghost use Rattle.frames.specs.Packed.{packed, unpacked};
 
 // The longest frame has eight pairs.
 pub const LONGEST: usize = 104;
 
-// The first `len` bytes are the frame; a length above 104 is read as 104.
-#[derive(Clone, Copy)]
+// The first `len` bytes are the frame; a length above 104 is read as 104. A length beside an array: a
+// frame is read and written without a heap.
+#[derive(Clone, Copy, PartialEq, Eq, Debug)]
 pub struct FrameBytes {
     pub len: u32,
-    pub bytes: [u8; 104],
+    pub bytes: [u8; LONGEST],
+}
+
+// The first `len` of some items, all of them where there are fewer.
+pub(super) fn first<T>(items: &[T], len: usize) -> &[T]
+    ensures { result.now ≡ take (min len (length items.now)) items.now }
+{
+    &items[..len.min(items.len())]
 }
 
 // Writes `src` into `dst` from `at` on.
@@ -26,13 +34,13 @@ impl FrameBytes {
     pub(super) fn join(front: &[u8], back: &[u8]) -> FrameBytes
         ensures { result ≡ packed (take 104 (front.now ++ back.now)) }
     {
-        let at = front.len().min(LONGEST);
-        let more = back.len().min(LONGEST - at);
-        let mut bytes = [0u8; 104];
-        put(&mut bytes, 0, &front[0..at]);
-        put(&mut bytes, at, &back[0..more]);
+        let front = first(front, LONGEST);
+        let back = first(back, LONGEST - front.len());
+        let mut bytes = [0; LONGEST];
+        put(&mut bytes, 0, front);
+        put(&mut bytes, front.len(), back);
         FrameBytes {
-            len: (at + more) as u32,
+            len: (front.len() + back.len()) as u32,
             bytes,
         }
     }
@@ -47,7 +55,6 @@ impl FrameBytes {
     pub fn as_slice(&self) -> &[u8]
         ensures { result.now ≡ unpacked self.now }
     {
-        let len = (self.len as usize).min(LONGEST);
-        &self.bytes[0..len]
+        first(&self.bytes, self.len as usize)
     }
 }

@@ -1,19 +1,27 @@
 // A frame from its bytes, held to its form.
-ghost use Rattle.std.specs.Prelude.{◌≡◌, ℕ, ◌+◌, ◌*◌, ◌≤◌, length, IfOk, Ok, Err, MatchResult, OnOk};
+ghost use Rattle.std.specs.Prelude.{◌≡◌, ◌==◌, map, length, take, IfOk, Ok, Err, MatchResult};
+ghost use Rattle.std.specs.List.{list_all};
 ghost use Rattle.base.specs.Refusals.{fault_at};
 ghost use Rattle.base.specs.declared.refusal.Refusal.TheVariants.{Malformed};
-ghost use Rattle.frames.specs.Frames.{first_fault, all_zero, num4, num8, rising_tests, pairs_from, entry_of};
-ghost use Rattle.frames.specs.Typed.{kind_number, kind_named, number_test, count_test, held_to, head_tests, count_tests, body_tests, head_of, holding, frame_of, decoded, line_decoded};
+ghost use Rattle.frames.specs.Frames.{first_fault, rising_tests};
+ghost use Rattle.frames.specs.Typed.{kind_number, number_test, count_test, held_to, head_tests, count_tests, head_of, holding, frame_of, decoded, line_decoded, Cut, entry_in, tag_in, pair_in, pair_at, parts_tests, frame_in};
 ghost use Rattle.frames.specs.Bothways.{BothWays};
 
-use super::frame::{Frame, Kind, NO_PAIR, Pair, Pairs};
+use super::bytes::first;
+use super::frame::{Frame, Kind, LAST_NUMBER, Pair, Pairs};
 use super::line::read_line;
 use base::book::Entry;
 use base::fault::Fault;
 use base::refusal::Refusal;
 
-// The highest committee number that a reselect may call up.
-const LAST_NUMBER: u16 = 20_000;
+// What a frame is held to: the number of stations, how many of them may be faulty, and the number of
+// batches.
+#[derive(Clone, Copy, PartialEq, Eq, Debug)]
+pub struct Limits {
+    pub stations: u32,
+    pub faults: u32,
+    pub batches: u32,
+}
 
 // The first eight bytes.
 #[derive(Clone, Copy)]
@@ -26,21 +34,20 @@ struct Head {
     zero: u8,
 }
 
+// A frame's bytes, cut where its parts meet: the head, the entry with the tag, as many pairs as there
+// are bytes for, and what is left behind them.
+#[derive(Clone, Copy)]
+struct Parts<'a> {
+    head: Head,
+    body: &'a [u8; 24],
+    pairs: &'a [[u8; 9]],
+    left: &'a [u8],
+}
+
 fn malformed(place: usize) -> Fault
     ensures { result ≡ fault_at Malformed place }
 {
     Fault::new(Refusal::Malformed, place)
-}
-
-fn kind_of(number: u8) -> Result<Kind, Fault>
-    ensures { result ≡ kind_named number }
-{
-    match number {
-        1 => Ok(Kind::Propose),
-        2 => Ok(Kind::Decision),
-        3 => Ok(Kind::Reselect),
-        _ => Err(malformed(0)),
-    }
 }
 
 // Whether a committee number stands in a frame of its kind.
@@ -48,203 +55,191 @@ fn number_fits(kind: Kind, number: u16) -> bool
     ensures { result ≡ number_test (kind_number kind) number }
 {
     match kind {
-        Kind::Reselect => 1 <= number && number <= LAST_NUMBER,
+        Kind::Reselect => (1..=LAST_NUMBER).contains(&number),
         _ => number == 0,
     }
 }
 
-// Whether a count of pairs does, where t stations may be faulty.
-fn count_fits(kind: Kind, t: u32, count: u8) -> bool
-    ensures { result ≡ count_test (kind_number kind) t count }
+// Whether no entry stands before a tag.
+fn is_blank(body: &[u8; 24]) -> bool
+    ensures { result ≡ list_all (λ b. b == 0) (take 16 body.now) }
 {
-    match kind {
-        Kind::Propose => count == 0,
-        Kind::Decision => count as u64 == t as u64 + 1,
-        Kind::Reselect => count <= 1,
-    }
+    body[..16].iter().all(|b| *b == 0)
 }
 
-// The head, each field in its place; tested up to the batch.
-fn read_head(n: u32, batches: u32, bytes: &[u8]) -> Result<Head, Fault>
-    ensures is { result ≡ held_to (first_fault (head_tests n batches bytes.now)) (head_of bytes.now) }
-    ensures long { OnOk result (32 ≤ length bytes.now) }
+// The entry is the first four words of four bytes, and the tag the third of eight.
+fn read_entry(body: &[u8; 24]) -> Entry
+    ensures { result ≡ entry_in body.now }
 {
-    let [kind, sender, b1, b0, c1, c0, count, zero, rest @ ..] = bytes else {
-        return Err(malformed(bytes.len()));
-    };
-    if rest.len() < 24 {
-        return Err(malformed(bytes.len()));
-    }
-    let kind = kind_of(*kind)?;
-    if *sender as u32 >= n {
-        return Err(malformed(1));
-    }
-    let batch = u16::from_be_bytes([*b1, *b0]);
-    if batch < 1 || batch as u32 > batches {
-        return Err(malformed(2));
-    }
-    Ok(Head {
-        kind,
-        sender: *sender,
-        batch,
-        number: u16::from_be_bytes([*c1, *c0]),
-        count: *count,
-        zero: *zero,
-    })
-}
-
-// The numbers of a head that hang on its kind, and the byte that is kept zero.
-fn check_counts(t: u32, head: &Head) -> Result<(), Fault>
-    ensures { result ≡ held_to (first_fault (count_tests t (kind_number head.now.kind) head.now.number head.now.count head.now.zero)) tt }
-{
-    if !number_fits(head.kind, head.number) {
-        return Err(malformed(4));
-    }
-    if !count_fits(head.kind, t, head.count) {
-        return Err(malformed(6));
-    }
-    if head.zero != 0 {
-        return Err(malformed(7));
-    }
-    Ok(())
-}
-
-fn is_blank(part: &[u8]) -> bool
-    ensures { result ≡ all_zero part.now }
-{
-    for b in part {
-        if *b != 0 {
-            return false;
-        }
-    }
-    true
-}
-
-// A reselect has no entry, and a frame is as long as its pairs ask.
-fn check_body(head: &Head, bytes: &[u8]) -> Result<(), Fault>
-    requires { 32 ≤ length bytes.now }
-    ensures is { result ≡ held_to (first_fault (body_tests (kind_number head.now.kind) head.now.count bytes.now)) tt }
-    ensures long { OnOk result (length bytes.now ≡ 32 + 9 * head.now.count) }
-{
-    if let Kind::Reselect = head.kind {
-        if !is_blank(&bytes[8..24]) {
-            return Err(malformed(8));
-        }
-    }
-    if bytes.len() != 32 + 9 * head.count as usize {
-        return Err(malformed(bytes.len()));
-    }
-    Ok(())
-}
-
-// The stations of the pairs are below n, and each is above the one before.
-fn check_pairs(n: u32, count: u8, bytes: &[u8]) -> Result<(), Fault>
-    requires { length bytes.now ≡ 32 + 9 * count }
-    ensures { result ≡ held_to (first_fault (rising_tests n 0 32 (pairs_from count 32 bytes.now))) tt }
-{
-    let mut low = 0u32;
-    for k in 0..count as usize {
-        let place = 32 + 9 * k;
-        let station = bytes[place] as u32;
-        if n <= station || station < low {
-            return Err(malformed(place));
-        }
-        low = station + 1;
-    }
-    Ok(())
-}
-
-// The number of four bytes from a place on, the most significant first.
-fn word_at(bytes: &[u8], place: usize) -> u32
-    requires { place + 4 ≤ length bytes.now }
-    ensures { result ≡ num4 bytes.now place }
-{
-    u32::from_be_bytes([
-        bytes[place],
-        bytes[place + 1],
-        bytes[place + 2],
-        bytes[place + 3],
-    ])
-}
-
-fn tag_at(bytes: &[u8], place: usize) -> u64
-    requires { place + 8 ≤ length bytes.now }
-    ensures { result ≡ num8 bytes.now place }
-{
-    word_at(bytes, place) as u64 * 0x1_0000_0000 + word_at(bytes, place + 4) as u64
-}
-
-fn read_entry(bytes: &[u8]) -> Entry
-    requires { 32 ≤ length bytes.now }
-    ensures { result ≡ entry_of bytes.now }
-{
+    let (words, _) = body.as_chunks::<4>();
     Entry {
-        grower: word_at(bytes, 8),
-        amount: word_at(bytes, 12),
-        carry: word_at(bytes, 16),
-        figure: word_at(bytes, 20),
+        grower: u32::from_be_bytes(words[0]),
+        amount: u32::from_be_bytes(words[1]),
+        carry: u32::from_be_bytes(words[2]),
+        figure: u32::from_be_bytes(words[3]),
     }
 }
 
-// As many pairs as there is room for.
-fn read_pairs(count: u8, bytes: &[u8]) -> Pairs
-    requires { length bytes.now ≡ 32 + 9 * count }
-    ensures { result ≡ holding count (pairs_from count 32 bytes.now) }
+fn read_tag(body: &[u8; 24]) -> u64
+    ensures { result ≡ tag_in body.now }
 {
-    let mut each = [NO_PAIR; 8];
-    for k in 0..count.min(8) as usize {
-        let place = 32 + 9 * k;
-        each[k] = Pair {
-            station: bytes[place],
-            tag: tag_at(bytes, place + 1),
-        };
+    let (words, _) = body.as_chunks::<8>();
+    u64::from_be_bytes(words[2])
+}
+
+fn read_pair(bytes: &[u8; 9]) -> Pair
+    ensures { result ≡ pair_at (pair_in bytes.now) }
+{
+    let [station, t7, t6, t5, t4, t3, t2, t1, t0] = *bytes;
+    Pair {
+        station,
+        tag: u64::from_be_bytes([t7, t6, t5, t4, t3, t2, t1, t0]),
+    }
+}
+
+// A count, and as many of the pairs as there is room for.
+fn read_pairs(count: u8, pairs: &[[u8; 9]]) -> Pairs
+    ensures { result ≡ holding count (map pair_in pairs.now) }
+{
+    let mut each = [Pair::default(); 8];
+    for (k, pair) in first(pairs, 8).iter().enumerate() {
+        each[k] = read_pair(pair);
     }
     Pairs { count, each }
 }
 
-// The head of a frame that passes every test, in their order.
-fn check_form(n: u32, t: u32, batches: u32, bytes: &[u8]) -> Result<Head, Fault>
-    ensures is { MatchResult result (λ h. (h ≡ head_of bytes.now) × (decoded n t batches bytes.now ≡ Ok (frame_of bytes.now))) (λ x. decoded n t batches bytes.now ≡ Err x) }
-    ensures long { IfOk result (λ h. length bytes.now ≡ 32 + 9 * h.count) }
-    ensures both { BothWays n t batches bytes.now }
-{
-    let head = read_head(n, batches, bytes)?;
-    check_counts(t, &head)?;
-    check_body(&head, bytes)?;
-    check_pairs(n, head.count, bytes)?;
-    Ok(head)
-}
+impl Parts<'_> {
+    // A reselect has no entry, and a frame is as long as its pairs ask; `len` is how long it is.
+    fn check_body(&self, len: usize) -> Result<(), Fault>
+        ensures { result ≡ held_to (first_fault (parts_tests (kind_number self.now.head.kind) self.now.head.count self.now.body.now (length self.now.pairs.now) (length self.now.left.now) len)) tt }
+    {
+        if self.head.kind == Kind::Reselect && !is_blank(self.body) {
+            return Err(malformed(8));
+        }
+        if self.pairs.len() != usize::from(self.head.count) || !self.left.is_empty() {
+            return Err(malformed(len));
+        }
+        Ok(())
+    }
 
-fn read_frame(head: Head, bytes: &[u8]) -> Frame
-    requires is { head ≡ head_of bytes.now }
-    requires long { length bytes.now ≡ 32 + 9 * head.count }
-    ensures { result ≡ frame_of bytes.now }
-{
-    Frame {
-        kind: head.kind,
-        sender: head.sender,
-        batch: head.batch,
-        number: head.number,
-        entry: read_entry(bytes),
-        tag: tag_at(bytes, 24),
-        pairs: read_pairs(head.count, bytes),
+    fn frame(&self) -> Frame
+        ensures { result ≡ frame_in self.now.head self.now.body.now self.now.pairs.now }
+    {
+        Frame {
+            kind: self.head.kind,
+            sender: self.head.sender,
+            batch: self.head.batch,
+            number: self.head.number,
+            entry: read_entry(self.body),
+            tag: read_tag(self.body),
+            pairs: read_pairs(self.head.count, self.pairs),
+        }
     }
 }
 
-// The frame that some bytes are, for n stations of which t may be faulty and a number of batches. Of
-// more than eight pairs the first eight are kept.
-pub fn decode(n: u32, t: u32, batches: u32, bytes: &[u8]) -> Result<Frame, Fault>
-    ensures is { result ≡ decoded n t batches bytes.now }
-    ensures both { BothWays n t batches bytes.now }
-{
-    let head = check_form(n, t, batches, bytes)?;
-    Ok(read_frame(head, bytes))
-}
+impl Limits {
+    // The parts of a frame whose head passes the tests up to the batch.
+    fn read_parts<'a>(&self, bytes: &'a [u8]) -> Result<Parts<'a>, Fault>
+        ensures is { let read = held_to (first_fault (head_tests self.now.stations self.now.batches bytes.now)) (head_of bytes.now) in MatchResult result (λ p. Ok p.head ≡ read) (λ x. Err x ≡ read) }
+        ensures cut { IfOk result (λ p. Cut bytes.now p.body.now p.pairs.now p.left.now) }
+    {
+        let [kind, sender, b1, b0, c1, c0, count, zero, rest @ ..] = bytes else {
+            return Err(malformed(bytes.len()));
+        };
+        let Some((body, rest)) = rest.split_first_chunk::<24>() else {
+            return Err(malformed(bytes.len()));
+        };
+        let kind = Kind::try_from(*kind)?;
+        if u32::from(*sender) >= self.stations {
+            return Err(malformed(1));
+        }
+        let batch = u16::from_be_bytes([*b1, *b0]);
+        if batch < 1 || u32::from(batch) > self.batches {
+            return Err(malformed(2));
+        }
+        let (pairs, left) = rest.as_chunks::<9>();
+        let head = Head {
+            kind,
+            sender: *sender,
+            batch,
+            number: u16::from_be_bytes([*c1, *c0]),
+            count: *count,
+            zero: *zero,
+        };
+        Ok(Parts {
+            head,
+            body,
+            pairs,
+            left,
+        })
+    }
 
-// The frame that a line stands for; a fault of the line or of the frame goes up as it is.
-pub fn decode_line(n: u32, t: u32, batches: u32, line: &[u8]) -> Result<Frame, Fault>
-    ensures { result ≡ line_decoded n t batches line.now }
-{
-    let frame = read_line(line)?;
-    decode(n, t, batches, frame.as_slice())
+    // Whether a frame may have so many pairs.
+    fn count_fits(&self, kind: Kind, count: u8) -> bool
+        ensures { result ≡ count_test (kind_number kind) self.now.faults count }
+    {
+        match kind {
+            Kind::Propose => count == 0,
+            Kind::Decision => u64::from(count) == u64::from(self.faults) + 1,
+            Kind::Reselect => count <= 1,
+        }
+    }
+
+    // The numbers of a head that hang on its kind, and the byte that is kept zero.
+    fn check_counts(&self, head: &Head) -> Result<(), Fault>
+        ensures { result ≡ held_to (first_fault (count_tests self.now.faults (kind_number head.now.kind) head.now.number head.now.count head.now.zero)) tt }
+    {
+        if !number_fits(head.kind, head.number) {
+            return Err(malformed(4));
+        }
+        if !self.count_fits(head.kind, head.count) {
+            return Err(malformed(6));
+        }
+        if head.zero != 0 {
+            return Err(malformed(7));
+        }
+        Ok(())
+    }
+
+    // The stations of the pairs are stations of the table, and each is above the one before.
+    fn check_pairs(&self, pairs: &[[u8; 9]]) -> Result<(), Fault>
+        ensures { result ≡ held_to (first_fault (rising_tests self.now.stations 0 32 (map pair_in pairs.now))) tt }
+    {
+        let mut low = 0u32;
+        for (k, pair) in pairs.iter().enumerate() {
+            let station = u32::from(pair[0]);
+            if self.stations <= station || station < low {
+                return Err(malformed(32 + 9 * k));
+            }
+            low = station + 1;
+        }
+        Ok(())
+    }
+
+    // The parts of a frame that passes every test, in their order.
+    fn check_form<'a>(&self, bytes: &'a [u8]) -> Result<Parts<'a>, Fault>
+        ensures { let given = decoded self.now.stations self.now.faults self.now.batches bytes.now in MatchResult result (λ p. given ≡ Ok (frame_in p.head p.body.now p.pairs.now)) (λ x. given ≡ Err x) }
+    {
+        let parts = self.read_parts(bytes)?;
+        self.check_counts(&parts.head)?;
+        parts.check_body(bytes.len())?;
+        self.check_pairs(parts.pairs)?;
+        Ok(parts)
+    }
+
+    // The frame that some bytes are. Of more than eight pairs the first eight are kept.
+    pub fn decode(&self, bytes: &[u8]) -> Result<Frame, Fault>
+        ensures is { result ≡ decoded self.now.stations self.now.faults self.now.batches bytes.now }
+        ensures both { BothWays self.now.stations self.now.faults self.now.batches bytes.now }
+    {
+        self.check_form(bytes).map(|parts| parts.frame())
+    }
+
+    // The frame that a line stands for; a fault of the line or of the frame goes up as it is.
+    pub fn decode_line(&self, line: &[u8]) -> Result<Frame, Fault>
+        ensures { result ≡ line_decoded self.now.stations self.now.faults self.now.batches line.now }
+    {
+        let frame = read_line(line)?;
+        self.decode(frame.as_slice())
+    }
 }

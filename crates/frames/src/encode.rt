@@ -6,7 +6,7 @@ ghost use Rattle.frames.specs.Typed.{HeadFits, stated, encoded};
 ghost use Rattle.frames.specs.Bothways.{ReadsBack};
 
 use super::bytes::FrameBytes;
-use super::frame::Frame;
+use super::frame::{Frame, Pair};
 
 // A tag as it is written.
 fn write_tag(tag: u64) -> [u8; 8]
@@ -17,12 +17,12 @@ fn write_tag(tag: u64) -> [u8; 8]
 }
 
 // A pair as it is written.
-fn write_pair(station: u8, tag: u64) -> [u8; 9]
-    ensures is { result ≡ station ∷ be8 tag }
-    ensures fits { tag < 2 ^ 64 }
+fn write_pair(pair: Pair) -> [u8; 9]
+    ensures is { result ≡ pair.station ∷ be8 pair.tag }
+    ensures fits { pair.tag < 2 ^ 64 }
 {
-    let [t7, t6, t5, t4, t3, t2, t1, t0] = write_tag(tag);
-    [station, t7, t6, t5, t4, t3, t2, t1, t0]
+    let [t7, t6, t5, t4, t3, t2, t1, t0] = write_tag(pair.tag);
+    [pair.station, t7, t6, t5, t4, t3, t2, t1, t0]
 }
 
 // A frame's statement and tag, and its pairs behind them.
@@ -38,7 +38,7 @@ fn assemble(frame: &Frame, statement: &[u8; 24], tag: &[u8; 8]) -> FrameBytes
     let mut bytes = FrameBytes::join(statement, tag);
     let pairs = frame.pairs.as_slice();
     for pair in pairs {
-        bytes = FrameBytes::join(bytes.as_slice(), &write_pair(pair.station, pair.tag));
+        bytes = FrameBytes::join(bytes.as_slice(), &write_pair(*pair));
     }
     bytes
 }

@@ -1,9 +1,12 @@
 // A frame by its fields.
 ghost use Rattle.std.specs.Prelude.{◌≡◌, min, length};
 ghost use Rattle.frames.specs.Bytes.{statement, entry_bytes};
-ghost use Rattle.frames.specs.Typed.{StatementFits, HeadFits, kind_number, listed, stated, pair_stated};
+ghost use Rattle.frames.specs.Typed.{StatementFits, HeadFits, kind_number, kind_named, listed, stated, pair_stated};
 
+use super::bytes::first;
 use base::book::Entry;
+use base::fault::Fault;
+use base::refusal::Refusal;
 
 // What a frame says, by its number.
 #[derive(Clone, Copy, PartialEq, Eq, Debug)]
@@ -17,21 +20,22 @@ pub enum Kind {
 }
 
 // A station and its tag on what it stated itself.
-#[derive(Clone, Copy)]
+#[derive(Clone, Copy, PartialEq, Eq, Debug, Default)]
 pub struct Pair {
     pub station: u8,
     pub tag: u64,
 }
 
-// The first `count` of the eight are the frame's; a count above eight is read as eight.
-#[derive(Clone, Copy)]
+// The first `count` of the eight are the frame's; a count above eight is read as eight. A count beside
+// an array: a frame is held without a heap.
+#[derive(Clone, Copy, PartialEq, Eq, Debug, Default)]
 pub struct Pairs {
     pub count: u8,
     pub each: [Pair; 8],
 }
 
 // The number is that of the committee that a reselect calls up; the entry is all zeros in a reselect.
-#[derive(Clone, Copy)]
+#[derive(Clone, Copy, PartialEq, Eq, Debug)]
 pub struct Frame {
     pub kind: Kind,
     pub sender: u8,
@@ -42,16 +46,8 @@ pub struct Frame {
     pub pairs: Pairs,
 }
 
-// What stands where there is no pair.
-pub const NO_PAIR: Pair = Pair { station: 0, tag: 0 };
-
-// An entry that says nothing.
-pub const NO_ENTRY: Entry = Entry {
-    grower: 0,
-    amount: 0,
-    carry: 0,
-    figure: 0,
-};
+// The highest committee number that a reselect may call up.
+pub const LAST_NUMBER: u16 = 20_000;
 
 impl Kind {
     pub fn number(self) -> u8
@@ -61,17 +57,33 @@ impl Kind {
     }
 }
 
+// The kind of a frame's first byte.
+impl TryFrom<u8> for Kind {
+    type Error = Fault;
+
+    ghost try_from_gives = { λ number answer. answer ≡ kind_named number };
+
+    fn try_from(number: u8) -> Result<Self, Fault> {
+        match number {
+            1 => Ok(Kind::Propose),
+            2 => Ok(Kind::Decision),
+            3 => Ok(Kind::Reselect),
+            _ => Err(Fault::new(Refusal::Malformed, 0)),
+        }
+    }
+}
+
 impl Pairs {
     pub fn as_slice(&self) -> &[Pair]
         ensures is { result.now ≡ listed self.now }
         ensures size { length result.now ≡ min self.now.count 8 }
     {
-        let count = (self.count as usize).min(8);
-        &self.each[0..count]
+        first(&self.each, usize::from(self.count))
     }
 }
 
-// The 24 bytes that a tag seals.
+// The 24 bytes that a tag seals. Each is named: copies of the fields into ranges of an array would
+// count the places by hand.
 fn state(kind: Kind, sender: u8, batch: u16, number: u16, count: u8, e: Entry) -> [u8; 24]
     ensures is { result ≡ statement (kind_number kind) sender batch number count (entry_bytes e) }
     ensures fits { StatementFits sender batch number count e }
@@ -139,7 +151,7 @@ impl Frame {
                 self.batch,
                 self.number,
                 0,
-                NO_ENTRY,
+                Entry::default(),
             ),
         }
     }

@@ -3,18 +3,18 @@ ghost use Rattle.std.specs.Prelude.{◌≡◌, ◌*◌, ◌<◌, ◌≤◌, ◌+
 ghost use Rattle.frames.specs.Frames.{hex, digit as digit_of};
 ghost use Rattle.frames.specs.Packed.{Sized, digit_read, line_read, line_written, OneLine};
 
-use super::bytes::FrameBytes;
+use super::bytes::{FrameBytes, LONGEST};
 use base::fault::Fault;
 use base::refusal::Refusal;
 
-// The value of the digit at a place of a line.
-fn digit_at(line: &[u8], place: usize) -> Result<u8, Fault>
-    requires { place < length line.now }
-    ensures { result ≡ digit_read line.now place }
+// The value of a character that stands at a place of its line. The library's `to_digit` would take
+// upper-case digits too.
+fn digit_value(x: u8, place: usize) -> Result<u8, Fault>
+    ensures { result ≡ digit_read x place }
 {
-    match line[place] {
-        x @ b'0'..=b'9' => Ok(x - b'0'),
-        x @ b'a'..=b'f' => Ok(x - b'a' + 10),
+    match x {
+        b'0'..=b'9' => Ok(x - b'0'),
+        b'a'..=b'f' => Ok(x - b'a' + 10),
         _ => Err(Fault::new(Refusal::BadLine, place)),
     }
 }
@@ -23,23 +23,24 @@ fn check_length(line: &[u8]) -> Result<(), Fault>
     ensures { MatchResult result (λ _. Sized line.now) (λ x. line_read line.now ≡ Err x) }
 {
     let digits = line.len();
-    if digits < 2 || 208 < digits || digits % 2 != 0 {
-        return Err(Fault::new(Refusal::BadLine, digits));
+    if (2..=208).contains(&digits) && digits.is_multiple_of(2) {
+        Ok(())
+    } else {
+        Err(Fault::new(Refusal::BadLine, digits))
     }
-    Ok(())
 }
 
 fn read_digits(line: &[u8]) -> Result<FrameBytes, Fault>
     requires { Sized line.now }
     ensures { result ≡ line_read line.now }
 {
-    let len = line.len() / 2;
-    let mut bytes = [0u8; 104];
-    for k in 0..len {
-        bytes[k] = digit_at(line, 2 * k)? * 16 + digit_at(line, 2 * k + 1)?;
+    let (pairs, _) = line.as_chunks::<2>();
+    let mut bytes = [0; LONGEST];
+    for (k, [high, low]) in pairs.iter().enumerate() {
+        bytes[k] = digit_value(*high, 2 * k)? * 16 + digit_value(*low, 2 * k + 1)?;
     }
     Ok(FrameBytes {
-        len: len as u32,
+        len: pairs.len() as u32,
         bytes,
     })
 }
@@ -52,7 +53,8 @@ pub fn read_line(line: &[u8]) -> Result<FrameBytes, Fault>
     read_digits(line)
 }
 
-// The digit of a value below sixteen.
+// The digit of a value below sixteen, as a byte: the library's `from_digit` answers a `char`, and that
+// in an `Option`.
 fn digit(value: u8) -> u8
     requires { value < 16 }
     ensures { result ≡ digit_of value }
@@ -69,6 +71,7 @@ fn write_digits(frame: &[u8], buffer: &mut [u8])
     ensures is { buffer.new ≡ hex frame.now ++ drop (2 * length frame.now) buffer.old }
     ensures one { OneLine frame.now (hex frame.now) }
 {
+    // By index: of a slice that was lent in chunks to write to, a proof knows no element.
     for (k, byte) in frame.iter().enumerate() {
         buffer[2 * k] = digit(byte / 16);
         buffer[2 * k + 1] = digit(byte % 16);

@@ -2,14 +2,23 @@
 ghost use Rattle.std.specs.Prelude.{◌≡◌, take, ◌==◌};
 ghost use Rattle.frames.specs.Slots.{framed, slot_of};
 
-use super::bytes::{FrameBytes, LONGEST};
+use super::bytes::{FrameBytes, LONGEST, first};
 
-// A length of 0 is no frame, and one above 104 is read as 104; `by` is 0 for a step of a station and
-// 1 for what came from outside.
-#[derive(Clone, Copy)]
+// Who put a frame into a pool, by the number that a slot keeps.
+#[derive(Clone, Copy, PartialEq, Eq, Debug)]
+pub enum Origin {
+    // A step of a station.
+    Step = 0,
+    // A line from outside.
+    Outside = 1,
+}
+
+// A length of 0 is no frame, and one above 104 is read as 104; `by` is an origin's number.
+// A pool is the caller's plain data and may hold anything, so `by` may be any number.
+#[derive(Clone, Copy, PartialEq, Eq, Debug)]
 pub struct Slot {
     pub len: u32,
-    pub bytes: [u8; 104],
+    pub bytes: [u8; LONGEST],
     pub by: u8,
     pub taken: bool,
 }
@@ -32,8 +41,7 @@ impl Slot {
     pub fn frame(&self) -> &[u8]
         ensures { result.now ≡ framed self.now }
     {
-        let len = (self.len as usize).min(LONGEST);
-        &self.bytes[0..len]
+        first(&self.bytes, self.len as usize)
     }
 
     pub fn is_free(&self) -> bool

@@ -20,7 +20,7 @@ use base::refusal::Refusal;
 use evidence::forgery::forged;
 use evidence::tags::{rightly_sent, sender_right, wrong_leaver, wrong_pair};
 use frames::bytes::FrameBytes;
-use frames::decode::decode;
+use frames::decode::Limits;
 use frames::frame::{Frame, Kind};
 use frames::line::read_line;
 use frames::pool::find_room;
@@ -229,12 +229,12 @@ impl<R: Rule, P: Policy, S: Sealing> Setup<R, P, S> {
         ensures is { result ≡ decoded self.now.table.n self.now.table.t self.now.batches bytes.now }
         ensures says { States self.now.table.n self.now.table.t self.now.batches bytes.now }
     {
-        decode(
-            self.table.stations(),
-            self.table.faults(),
-            self.batches,
-            bytes,
-        )
+        let limits = Limits {
+            stations: self.table.stations(),
+            faults: self.table.faults(),
+            batches: self.batches,
+        };
+        limits.decode(bytes)
     }
 
     // The place of a forged statement; a malformed frame has none.

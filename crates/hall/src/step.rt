@@ -11,7 +11,7 @@ use crate::setup::Setup;
 use base::book::{Batch, Entry};
 use evidence::issue::issue;
 use evidence::votes::{own_entry, quorum, same_entry};
-use frames::frame::{Frame, Kind, Pair, Pairs};
+use frames::frame::{Frame, Kind, LAST_NUMBER, Pair, Pairs};
 use frames::slot::Slot;
 use policies::policy::Policy;
 use protocol::station::{Station, Vote};
@@ -19,9 +19,6 @@ use rules::batch::Checked;
 use rules::clerk::work_out;
 use rules::rule::Rule;
 use seals::seal::Sealing;
-
-// The highest committee number.
-const LAST_NUMBER: u32 = 20_000;
 
 const NO_ENTRY: Entry = Entry {
     grower: 0,
@@ -45,7 +42,7 @@ pub(crate) const NO_PAIRS: Pairs = Pairs {
 pub(crate) fn may_move(number: u32) -> bool
     ensures { result ≡ nat_lt number 20000 }
 {
-    number < LAST_NUMBER
+    number < u32::from(LAST_NUMBER)
 }
 
 impl<R: Rule, P: Policy, S: Sealing> Setup<R, P, S> {

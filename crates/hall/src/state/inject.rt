@@ -9,13 +9,10 @@ use super::Hall;
 use base::book::{Batch, Entry};
 use base::fault::Fault;
 use frames::pool::enter;
-use frames::slot::Slot;
+use frames::slot::{Origin, Slot};
 use policies::policy::Policy;
 use rules::rule::Rule;
 use seals::seal::Sealing;
-
-// Who puts a frame from outside into the pool.
-const OUTSIDE: u8 = 1;
 
 impl<R: Rule, P: Policy, S: Sealing> Hall<R, P, S> {
     pub fn inject(
@@ -30,7 +27,7 @@ impl<R: Rule, P: Policy, S: Sealing> Hall<R, P, S> {
     {
         self.setup.admit(intake, pool, books)?;
         let bytes = self.setup.inject_ready(line, pool)?;
-        enter(pool, Slot::holding(bytes.as_slice(), OUTSIDE));
+        enter(pool, Slot::holding(bytes.as_slice(), Origin::Outside as u8));
         Ok((false, false, false))
     }
 }

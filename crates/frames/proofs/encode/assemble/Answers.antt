@@ -2,13 +2,9 @@ use Rattle.std.proofs.Common.{◌^◌, ◌<◌}
 use Rattle.std.proofs.ByRecursion.{All-more}
 use Rattle.frames.specs.declared.frame.Pair.{Pair}
 use Rattle.frames.specs.Typed.{no_pair}
-use Rattle.frames.proofs.Encoding.{encode_first, encode_more, encode_all, few_listed, short_encoded}
+use Rattle.frames.proofs.Encoding.{encode_more, encode_all, few_listed, short_encoded}
 use Rattle.frames.proofs.Bothways.{encode_back}
 use Rattle.frames.proofs.encode.assemble.Goals as goal
-
-pub loop-pair-init : goal.loop-pair-init
-loop-pair-init c =
-    (encode_first c.args.frame.now c.args.statement.now c.args.tag.now c.join-bytes.result c.requires.states c.requires.sealed c.join-bytes.ensures, tt)
 
 pub loop-pair-preserved : goal.loop-pair-preserved
 loop-pair-preserved c = (

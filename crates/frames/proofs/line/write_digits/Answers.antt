@@ -1,10 +1,7 @@
-use Rattle.std.proofs.Common.{◌+◌, ◌*◌, set, refl, ◌∙◌, ap₂, arith}
+use Rattle.std.proofs.Common.{◌+◌, ◌*◌, set, ◌∙◌, ap₂, arith}
 use Rattle.frames.proofs.Reading.{written_more, written_all, one_line}
 use Rattle.frames.proofs.Numbers.{bytes_from}
 use Rattle.frames.proofs.line.write_digits.Goals as goal
-
-pub loop-k-init : goal.loop-k-init
-loop-k-init c = refl
 
 pub loop-k-preserved : goal.loop-k-preserved
 loop-k-preserved c =

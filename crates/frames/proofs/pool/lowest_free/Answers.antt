@@ -1,20 +1,12 @@
-use Rattle.std.proofs.Common.{◌≡◌, length, sym, subst, arith}
-use Rattle.frames.proofs.Places.{Seen, seen_none, seen_more, found_here, found_none}
+use Rattle.std.proofs.Common.{eqb, rules, tests}
+use Rattle.std.proofs.lemmas.Iterator.{YieldsList-from_slice}
+use Rattle.std.proofs.lemmas.Iterator.Search.{position_from_yields_List}
+use Rattle.frames.specs.declared.slot.Slot.{Slot}
+use Rattle.frames.proofs.Places.{found}
 use Rattle.frames.proofs.pool.lowest_free.Goals as goal
-
-pub loop-k-init : goal.loop-k-init
-loop-k-init c = seen_none c.args.pool.now
-
-pub returns-then-is_free : goal.returns-then-is_free
-returns-then-is_free c =
-    let f = found_here c.args.pool.now c.loop-k.k c.loop-k-test.true (sym c.if-is_free.ensures) c.loop-k.invariant in
-    record { is = f.is; inside = f.inside; behind = f.behind; place = f.place; full = f.full }
-
-pub loop-k-preserved : goal.loop-k-preserved
-loop-k-preserved c = seen_more c.args.pool.now c.loop-k.k c.loop-k-test.true (sym c.if-is_free.ensures) c.loop-k.invariant
 
 pub returns : goal.returns
 returns c =
-    let e : c.loop-k.k ≡ length c.args.pool.now = omega arith in
-    let f = found_none c.args.pool.now (subst (Seen c.args.pool.now) e c.loop-k.invariant) in
-    record { is = f.is; inside = f.inside; behind = f.behind; place = f.place; full = f.full }
+    let e = position_from_yields_List (λ (s : Slot). eqb s.len 0) _ _ c.position.result c.position.ensures.ran (YieldsList-from_slice c.args.pool.now cc) (λ x b q k. search (rules, tests)) in
+    let f = found c.args.pool.now c.position.result e in
+    record { is = f.is; inside = f.inside; behind = f.behind; place = f.place }
