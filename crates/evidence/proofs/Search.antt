@@ -1,8 +1,10 @@
 -- Searches, one pair and one slot at a time.
-use Rattle.std.proofs.Common.{◌≡◌, ℕ, ◌+◌, ◌*◌, ◌<◌, ◌≤◌, min, Bool, true, false, not, eqb, leb, List, ◌∷◌, map, length, get_or, take, drop, Some, None, Decides, Option, sym, refl, ap, ◌∙◌, ap₂, arith, rules}
+use Rattle.std.proofs.Common.{◌≡◌, ◌||◌, [], ℕ, ◌+◌, ◌*◌, ◌<◌, ◌≤◌, min, Bool, true, false, not, eqb, leb, List, ◌∷◌, map, cond, nat_lt, length, get_or, take, drop, Some, None, Decides, Option, sym, refl, ap, ◌∙◌, ap₂, arith, rules, tests, suc, add-zero}
+use Rattle.std.specs.Option.{option_map}
+use Rattle.std.specs.List.{list_any, position, position_or_len}
 use Rattle.std.proofs.lemmas.Slice.Eq.{compares_Decides}
 use Rattle.std.proofs.lemmas.List.{at_drop_more, at_drop_all, length-take}
-use Rattle.std.proofs.lemmas.Bool.Decides.{same_from_decides, Decides-like}
+use Rattle.std.proofs.lemmas.Bool.Decides.{same_from_decides, Decides-like, nat_tests}
 use Rattle.frames.specs.declared.frame.Pair.{Pair}
 use Rattle.frames.specs.declared.frame.Pairs.{Pairs}
 use Rattle.frames.specs.declared.frame.Frame.{Frame}
@@ -20,6 +22,30 @@ first_good good place p ps h = rw (h, first_pair) refl
 
 first_bad : (good : ℕ × ℕ → Bool) (place : ℕ) (p : ℕ × ℕ) (ps : List (ℕ × ℕ)) → good p ≡ false → first_pair good place (p ∷ ps) ≡ Some place
 first_bad good place p ps h = rw (h, first_pair) refl
+
+lt_more : (m n : ℕ) → nat_lt (1 + m) (suc n) ≡ nat_lt m n
+lt_more m n = grind (arith, nat_tests)
+
+later : (b : Bool) (place k : ℕ) {r : Option ℕ} → option_map (λ n. place + 9 + 9 * n) (cond b (Some k) None) ≡ r → option_map (λ n. place + 9 * n) (cond b (Some (1 + k)) None) ≡ r
+later true place k e = let n : place + 9 * (1 + k) ≡ place + 9 + 9 * k = omega arith in ap Some n ∙ e
+later false place k e = e
+
+-- the place of the first bad pair, by its number
+pub pair_at_position : (good : ℕ × ℕ → Bool) (place : ℕ) (ps : List Pair)
+    → option_map (λ k. place + 9 * k) (position (λ p. not (good (plain p))) ps) ≡ first_pair good place (map plain ps)
+pair_at_position good place [] = refl
+pair_at_position good place (p ∷ ps) = go (good (plain p)) refl (pair_at_position good (place + 9) ps)
+  where
+    goal : Type 0
+    goal = option_map (λ k. place + 9 * k) (position (λ p. not (good (plain p))) (p ∷ ps)) ≡ first_pair good place (map plain (p ∷ ps))
+
+    go : (b : Bool) → good (plain p) ≡ b → option_map (λ k. place + 9 + 9 * k) (position (λ p. not (good (plain p))) ps) ≡ first_pair good (place + 9) (map plain ps) → goal
+    go true h ih =
+        let before : ℕ = position_or_len (λ q. not (good (plain q))) ps in
+        rw h (ap (λ b. option_map (λ k. place + 9 * k) (cond b (Some (1 + before)) None)) (lt_more before (length ps)) ∙ later (nat_lt before (length ps)) place before ih)
+    go false h ih =
+        let some : nat_lt 0 (suc (length ps)) ≡ true = search (rules, tests) in
+        rw h (ap (λ b. option_map (λ k. place + 9 * k) (cond b (Some 0) None)) some ∙ ap Some (add-zero place))
 
 -- what the pairs from k on give
 abbrev pub from : (ℕ × ℕ → Bool) → ℕ → List Pair → Option ℕ
@@ -58,6 +84,15 @@ module _ (pool : List Slot) (s : List ℕ) (k : ℕ) (d : Slot) (sofar : issued 
 
 pub slot_none : (pool : List Slot) (s : List ℕ) (k : ℕ) → issued s pool ≡ issued s (drop k pool) → length pool ≤ k → issued s pool ≡ false
 slot_none pool s k sofar h = sofar ∙ at_drop_all (issued s) pool k h
+
+-- as a test of any slot
+pub issued_is : (s : List ℕ) (pool : List Slot) → list_any (step_begins s) pool ≡ issued s pool
+issued_is s [] = refl
+issued_is s (x ∷ xs) = go (step_begins s x) (issued_is s xs)
+  where
+    go : (b : Bool) {l r : Bool} → l ≡ r → (b || l) ≡ (b or r)
+    go true e = refl
+    go false e = e
 
 -- a frame that begins with 24 bytes
 pub begins_is : (x : Slot) (s frame : List ℕ) (r : Bool) → true ≡ of_step x → frame ≡ framed x → length s ≡ 24 → Decides r (s ≡ take (length s) frame) → r ≡ step_begins s x

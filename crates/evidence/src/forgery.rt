@@ -1,5 +1,5 @@
 // Statements that bear a correct station's right tag though no step issued them.
-ghost use Rattle.std.specs.Prelude.{◌≡◌, is_some};
+ghost use Rattle.std.specs.Prelude.{◌≡◌};
 ghost use Rattle.frames.specs.Slots.{issued};
 ghost use Rattle.evidence.specs.Forgery.{faulty_in, of_step, step_begins, bound, forged_sender_in, forged_in, forged_pair_in};
 
@@ -23,23 +23,11 @@ fn begins(slot: &Slot, statement: &[u8; 24]) -> bool
     is_of_step(slot) && slot.frame().starts_with(statement)
 }
 
-// The first slot that holds a step's frame that begins with a statement.
-fn find_issued<'a>(statement: &[u8; 24], pool: &'a [Slot]) -> Option<&'a Slot>
-    ensures { is_some result ≡ issued statement.now pool.now }
-{
-    for slot in pool {
-        if begins(slot, statement) {
-            return Some(slot);
-        }
-    }
-    None
-}
-
 // Whether some step's frame in the pool begins with a statement.
 pub fn is_issued(statement: &[u8; 24], pool: &[Slot]) -> bool
     ensures { result ≡ issued statement.now pool.now }
 {
-    find_issued(statement, pool).is_some()
+    pool.iter().any(|slot| begins(slot, statement))
 }
 
 // Whether a correct station is bound to a statement by its right tag.
@@ -52,7 +40,7 @@ fn is_bound<S: Check>(
 ) -> bool
     ensures { result ≡ bound (faulty_in table.now) (S.Check.tag seal.now) station statement.now shown }
 {
-    !table.is_faulty(station as u32) && seal.check(station, statement, shown)
+    !table.is_faulty(u32::from(station)) && seal.check(station, statement, shown)
 }
 
 // The place of the first pair that binds a correct station to a statement that no step issued.
@@ -71,7 +59,7 @@ fn forged_pair<S: Check>(table: &Locked, seal: &S, f: &Frame, pool: &[Slot]) -> 
                     continue 'pairs;
                 }
             }
-            break 'search Some(place_of(k as u8));
+            break 'search Some(place_of(k));
         }
         None
     }

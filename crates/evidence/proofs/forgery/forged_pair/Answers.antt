@@ -28,9 +28,6 @@ pairs-preserved g c =
     pair_next (unforged faulty tag f pool) c.as_slice-pairs.result.now c.pairs.k _ _ c.pairs.invariant c.pairs-test.true
     (pair_known faulty tag f pool _ c.pair_statement-statement.result c.pair_statement-statement.ensures c.if-not-is_bound.ensures here)
 
-pub overflow_cast-k : goal.overflow_cast-k
-overflow_cast-k g c = omega (arith, few_pairs c.args.f.now.pairs c.as_slice-pairs.result.now c.as_slice-pairs.ensures.is)
-
 pub returns-after-loop-slot : goal.returns-after-loop-slot
 returns-after-loop-slot g c =
     let faulty = faulty_in c.args.table.now in
