@@ -1,4 +1,4 @@
--- The stations that back an entry: how many they are, and the lowest of them one by one.
+-- The stations that back an entry: how many they are, and the pairs of the lowest of them.
 use Rattle.std.proofs.Common.{◌≡◌, ℕ, zero, suc, ◌+◌, ◌-◌, ◌<◌, ◌≤◌, min, Bool, true, false, cond, ◌⊎◌, List, [], ◌∷◌, ◌++◌, map, length, get_or, take, drop, set, replicate, Some, None, Option, sym, refl, ap, ◌∙◌, ap₂, inl, inr, add-zero, zero-add, arith}
 use Rattle.std.specs.List.{filter_map, zip, range_with_len, cons_option}
 use Rattle.std.proofs.lemmas.List.FromFn.{length-range_with_len, get_or-range_with_len}
@@ -12,10 +12,6 @@ use Rattle.frames.proofs.Packed.{take_least}
 use Rattle.protocol.specs.declared.station.Vote.{Vote}
 use Rattle.protocol.specs.Steps.{same_entry, backers}
 use Rattle.evidence.specs.Votes.{pair_of, is_for, weight_of, support_of, backs_entry, lowest_of}
-
-take_nil : {X : Type 0} (n : ℕ) → take {A = X} n [] ≡ []
-take_nil zero = refl
-take_nil (suc n) = refl
 
 -- one station
 backers_yes : (e : Entry) (q : ℕ) (v : Vote) (vs : List (Option Vote)) → backs_entry v e ≡ true → backers e q (Some v ∷ vs) ≡ (q, v.tag) ∷ backers e (q + 1) vs
@@ -34,14 +30,6 @@ backers_none : (e : Entry) (q : ℕ) (vs : List (Option Vote)) → backers e q (
 unfolding backers
 backers_none e q vs = refl
 
--- no station counts twice
-pub light : {V S : Type 0} (backs : V → S → Bool) (what : S) (o : Option V) (w : ℕ) → w ≡ weight_of backs what o → w ≤ 1
-light backs what o w h = go (is_for backs what o) h
-  where
-    go : (b : Bool) → w ≡ cond b 1 0 → w ≤ 1
-    go true e = omega arith
-    go false e = omega arith
-
 support_cons : (e : Entry) (o : Option Vote) (vs : List (Option Vote)) → support_of backs_entry e (o ∷ vs) ≡ cond (is_for backs_entry e o) 1 0 + support_of backs_entry e vs
 support_cons e o vs = sum_by-cons (weight_of backs_entry e) o vs
 
@@ -55,30 +43,6 @@ support-backers e q (Some v ∷ vs) = support_cons e (Some v) vs ∙ go (backs_e
         → cond (backs_entry v e) 1 0 + support_of backs_entry e vs ≡ length (backers e q (Some v ∷ vs))
     go true h ih = ap (λ (b : Bool). cond b 1 0 + support_of backs_entry e vs) h ∙ omega (arith, ih) ∙ sym (ap length (backers_yes e q v vs h))
     go false h ih = ap (λ (b : Bool). cond b 1 0 + support_of backs_entry e vs) h ∙ omega (arith, ih) ∙ sym (ap length (backers_no e q v vs h))
-
-pub length-backers : (e : Entry) (q : ℕ) (vs : List (Option Vote)) → length (backers e q vs) ≤ length vs
-length-backers e q vs = omega (arith, support-backers e q vs, count_by-le-length (is_for backs_entry e) vs)
-
-backers_append : (e : Entry) (q : ℕ) (xs ys : List (Option Vote)) → backers e q (xs ++ ys) ≡ backers e q xs ++ backers e (q + length xs) ys
-backers_append e q [] ys = ap (λ k. backers e k ys) (sym (add-zero q)) ∙ sym (ap (λ r. r ++ backers e (q + 0) ys) (backers_nil e q))
-backers_append e q (None ∷ xs) ys =
-    let k : q + 1 + length xs ≡ q + suc (length xs) = omega arith in
-    backers_none e q (xs ++ ys) ∙ backers_append e (q + 1) xs ys
-    ∙ ap₂ (λ r j. r ++ backers e j ys) (sym (backers_none e q xs)) k
-backers_append e q (Some v ∷ xs) ys = go (backs_entry v e) refl (backers_append e (q + 1) xs ys)
-  where
-    k : q + 1 + length xs ≡ q + suc (length xs)
-    k = omega arith
-
-    go : (b : Bool) → backs_entry v e ≡ b → backers e (q + 1) (xs ++ ys) ≡ backers e (q + 1) xs ++ backers e (q + 1 + length xs) ys
-        → backers e q (Some v ∷ xs ++ ys) ≡ backers e q (Some v ∷ xs) ++ backers e (q + suc (length xs)) ys
-    go true h ih =
-        backers_yes e q v (xs ++ ys) h ∙ ap (λ r. (q, v.tag) ∷ r) ih ∙ ap₂ (λ r j. r ++ backers e j ys) (sym (backers_yes e q v xs h)) k
-    go false h ih = backers_no e q v (xs ++ ys) h ∙ ih ∙ ap₂ (λ r j. r ++ backers e j ys) (sym (backers_no e q v xs h)) k
-
--- the stations below q come first
-backers_front : (e : Entry) (q : ℕ) (vs : List (Option Vote)) → backers e 0 vs ≡ backers e 0 (take q vs) ++ backers e (0 + length (take q vs)) (drop q vs)
-backers_front e q vs = ap (backers e 0) (sym (take-append-drop q vs)) ∙ backers_append e 0 (take q vs) (drop q vs)
 
 -- The loop that gathers pairs
 
@@ -155,18 +119,3 @@ placed_all e n size vs done each h all is =
     let whole : each ≡ map pair_at (take 8 (take size bs)) ++ replicate (8 - length (map pair_at (take 8 (take size bs)))) no_pair =
     is ∙ ap₂ (λ r k. r ++ replicate (8 - k) no_pair) pairs (sym (length-map done (λ p. p.1)) ∙ ap length pairs) in
     λ i. record { count = size; each = whole i }
-
--- the pairs of at most eight are those stations
-pair_plain : (ps : List (ℕ × ℕ)) → map plain (map pair_at ps) ≡ ps
-pair_plain [] = refl
-pair_plain (p ∷ ps) = ap (λ r. p ∷ r) (pair_plain ps)
-
-pub lowest_lists : (size : ℕ) (bs : List (ℕ × ℕ)) → size ≤ 8 → size ≤ length bs → map plain (listed (lowest_of size bs)) ≡ take size bs
-lowest_lists size bs few enough =
-    let xs : List (ℕ × ℕ) = take size bs in
-    let long : length xs ≡ size = length-take-le size bs enough in
-    let all : take 8 xs ≡ xs = take_all 8 xs (omega arith) in
-    let least : min size 8 ≡ size = omega arith in
-    let size_is : length (map pair_at (take 8 xs)) ≡ min size 8 = length-map (take 8 xs) pair_at ∙ ap length all ∙ long ∙ sym least in
-    ap (map plain) (take_at (map pair_at (take 8 xs)) (replicate (8 - length (map pair_at (take 8 xs))) no_pair) (min size 8) size_is)
-    ∙ pair_plain (take 8 xs) ∙ all

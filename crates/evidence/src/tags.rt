@@ -1,10 +1,10 @@
 // The tags and the seats behind a frame.
-ghost use Rattle.std.specs.Prelude.{◌≡◌, ℕ, ◌+◌, ◌-◌, ◌*◌, ◌≤◌, map, ◌==◌};
+ghost use Rattle.std.specs.Prelude.{◌≡◌, ℕ, ◌+◌, ◌-◌, ◌*◌, ◌≤◌, Bool, map, ◌==◌};
 ghost use Rattle.frames.specs.Frames.{first_pair};
 ghost use Rattle.frames.specs.Typed.{plain, listed};
 ghost use Rattle.protocol.specs.Ready.{pairs_in, shown_by};
 ghost use Rattle.evidence.specs.Issue.{right_tag};
-ghost use Rattle.evidence.specs.Tags.{sender_tagged, pair_tagged, pair_left, rightly_by, pairs_shown};
+ghost use Rattle.evidence.specs.Tags.{Tests, sender_tagged, pair_tagged, pair_left, rightly_by, pairs_shown};
 
 use frames::frame::{Frame, Pair, Pairs};
 use policies::policy::Policy;
@@ -32,6 +32,18 @@ pub fn sender_right<S: Check>(seal: &S, f: &Frame) -> bool
     is_senders(seal, f, f.tag)
 }
 
+// The place in a frame of the first of its pairs that fails a test.
+fn first_failing<F: Fn(&Pair) -> bool>(passes: F, pairs: &Pairs) -> Option<usize>
+    requires { F.IsAlwaysCallable passes }
+    ensures { (good : ℕ × ℕ → Bool) → Tests F.Fn passes good → result ≡ first_pair good 32 (map plain (listed pairs.now)) }
+{
+    pairs
+        .as_slice()
+        .iter()
+        .position(|pair| !passes(pair))
+        .map(place_of)
+}
+
 // Whether a pair's tag is right.
 fn is_pair_right<S: Check>(seal: &S, f: &Frame, pair: &Pair) -> bool
     ensures { result ≡ pair_tagged (S.Check.tag seal.now) f.now (plain pair.now) }
@@ -43,11 +55,7 @@ fn is_pair_right<S: Check>(seal: &S, f: &Frame, pair: &Pair) -> bool
 pub fn wrong_pair<S: Check>(seal: &S, f: &Frame) -> Option<usize>
     ensures { result ≡ first_pair (pair_tagged (S.Check.tag seal.now) f.now) 32 (pairs_in f.now) }
 {
-    f.pairs
-        .as_slice()
-        .iter()
-        .position(|pair| !is_pair_right(seal, f, pair))
-        .map(place_of)
+    first_failing(|pair| is_pair_right(seal, f, pair), &f.pairs)
 }
 
 // The number of the committee that a reselect leaves.
@@ -69,22 +77,15 @@ pub fn rightly_sent<P: Policy>(policy: &P, f: &Frame) -> bool
     }
 }
 
-// Whether a pair has the right tag of a member of the committee left.
-fn is_leaver<S: Check, P: Policy>(seal: &S, policy: &P, f: &Frame, pair: &Pair) -> bool
-    ensures { result ≡ pair_left (S.Check.tag seal.now) (P.Policy.seats policy.now) f.now (plain pair.now) }
-{
-    is_pair_right(seal, f, pair) && policy.seated(left_by(f), u32::from(pair.station))
-}
-
 // The place of the first pair whose tag is wrong or whose station does not sit in the committee left.
 pub fn wrong_leaver<S: Check, P: Policy>(seal: &S, policy: &P, f: &Frame) -> Option<usize>
     ensures { result ≡ first_pair (pair_left (S.Check.tag seal.now) (P.Policy.seats policy.now) f.now) 32 (pairs_in f.now) }
 {
-    f.pairs
-        .as_slice()
-        .iter()
-        .position(|pair| !is_leaver(seal, policy, f, pair))
-        .map(place_of)
+    let left = left_by(f);
+    first_failing(
+        |pair| is_pair_right(seal, f, pair) && policy.seated(left, u32::from(pair.station)),
+        &f.pairs,
+    )
 }
 
 // What a member of the new committee alone shows of the frame that it took: its sender with the tag, or its own pair.
@@ -95,13 +96,13 @@ pub fn shown(f: &Frame) -> Pairs
     if f.pairs.count != 0 {
         return f.pairs;
     }
-    let own = Pair {
+    let mut own = Pairs {
+        count: 1,
+        ..Pairs::default()
+    };
+    own.each[0] = Pair {
         station: f.sender,
         tag: f.tag,
     };
-    let none = Pair::default();
-    Pairs {
-        count: 1,
-        each: [own, none, none, none, none, none, none, none],
-    }
+    own
 }

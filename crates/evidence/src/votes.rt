@@ -53,14 +53,6 @@ pub fn support<V: Ballot>(votes: &[Option<V>; 16], n: u32, what: &V::Subject) ->
         .count() as u32
 }
 
-// Whether at least `size` of the first n stations vote for an entry.
-fn is_reached(votes: &[Option<Vote>; 16], n: u32, size: u32, entry: Entry) -> bool
-    ensures is { result ≡ nat_le size (support_of backs_entry entry (take n votes.now)) }
-    ensures few { result ≡ true → size ≤ 16 }
-{
-    size <= support(votes, n, &entry)
-}
-
 // A station's pair, if its vote is for an entry.
 fn pair_of(station: u8, held: Option<Vote>, what: &Entry) -> Option<Pair>
     ensures { result ≡ pair_backed what.now station held }
@@ -93,7 +85,7 @@ fn lowest(votes: &[Option<Vote>; 16], n: u32, size: u8, what: Entry) -> Pairs
 pub fn quorum(votes: &[Option<Vote>; 16], n: u32, size: u32, entry: Entry) -> Option<Pairs>
     ensures { result ≡ quorum_of size entry (take n votes.now) }
 {
-    is_reached(votes, n, size, entry).then(|| lowest(votes, n, size as u8, entry))
+    (size <= support(votes, n, &entry)).then(|| lowest(votes, n, size as u8, entry))
 }
 
 // The entry of station i's vote; zeros where there is no vote.
