@@ -11,7 +11,7 @@ use Rattle.frames.specs.Typed.{no_pair, pair_at, plain, listed}
 use Rattle.frames.proofs.Packed.{take_least}
 use Rattle.protocol.specs.declared.station.Vote.{Vote}
 use Rattle.protocol.specs.Steps.{same_entry, backers}
-use Rattle.evidence.specs.Votes.{pair_of, is_for, weight_of, support_of, backs_entry, lowest_of}
+use Rattle.evidence.specs.Votes.{pair_backed, is_for, weight_of, support_of, backs_entry, lowest_of}
 
 -- one station
 backers_yes : (e : Entry) (q : ℕ) (v : Vote) (vs : List (Option Vote)) → backs_entry v e ≡ true → backers e q (Some v ∷ vs) ≡ (q, v.tag) ∷ backers e (q + 1) vs
@@ -48,15 +48,15 @@ support-backers e q (Some v ∷ vs) = support_cons e (Some v) vs ∙ go (backs_e
 
 -- what it goes over: as many of their pairs as there is room for, each with its place
 abbrev pub gathered : Entry → ℕ → ℕ → List (Option Vote) → List (ℕ × Pair)
-gathered e n size vs = zip (range_with_len 0 8) (take size (filter_map (λ p. pair_of e p.0 p.1) (take n (zip (range_with_len 0 16) vs))))
+gathered e n size vs = zip (range_with_len 0 8) (take size (filter_map (λ p. pair_backed e p.0 p.1) (take n (zip (range_with_len 0 16) vs))))
 
-no_votes : (e : Entry) (q n : ℕ) → filter_map (λ p. pair_of e p.0 p.1) (take {A = ℕ × Option Vote} n []) ≡ map pair_at (backers e q (take {A = Option Vote} n []))
+no_votes : (e : Entry) (q n : ℕ) → filter_map (λ p. pair_backed e p.0 p.1) (take {A = ℕ × Option Vote} n []) ≡ map pair_at (backers e q (take {A = Option Vote} n []))
 no_votes e q zero = ap (map pair_at) (sym (backers_nil e q))
 no_votes e q (suc n) = ap (map pair_at) (sym (backers_nil e q))
 
 -- the pairs of stations from q on
 pairs_backed : (e : Entry) (q m n : ℕ) (vs : List (Option Vote)) → length vs ≤ m
-    → filter_map (λ p. pair_of e p.0 p.1) (take n (zip (range_with_len q m) vs)) ≡ map pair_at (backers e q (take n vs))
+    → filter_map (λ p. pair_backed e p.0 p.1) (take n (zip (range_with_len q m) vs)) ≡ map pair_at (backers e q (take n vs))
 pairs_backed e q zero n [] h = no_votes e q n
 pairs_backed e q (suc m) n [] h = no_votes e q n
 pairs_backed e q zero n (v ∷ vs) h = absurd (omega arith)
@@ -65,7 +65,7 @@ pairs_backed e q (suc m) (suc n) (None ∷ vs) h = pairs_backed e (q + 1) m n vs
 pairs_backed e q (suc m) (suc n) (Some v ∷ vs) h = go (backs_entry v e) refl (pairs_backed e (q + 1) m n vs (omega arith))
   where
     test : ℕ × Option Vote → Option Pair
-    test p = pair_of e p.0 p.1
+    test p = pair_backed e p.0 p.1
 
     go : (b : Bool) → backs_entry v e ≡ b → filter_map test (take n (zip (range_with_len (q + 1) m) vs)) ≡ map pair_at (backers e (q + 1) (take n vs))
         → filter_map test (take (suc n) (zip (range_with_len q (suc m)) (Some v ∷ vs))) ≡ map pair_at (backers e q (Some v ∷ take n vs))
@@ -97,7 +97,7 @@ pub gathered_at : (e : Entry) (n size : ℕ) (vs : List (Option Vote)) (i : ℕ)
     → (i < length (gathered e n size vs)) × (p ≡ get_or (gathered e n size vs) i p) → (p.0 ≡ i) × (i < 8)
 gathered_at e n size vs i p h =
     let ks : List ℕ = range_with_len 0 8 in
-    let ys : List Pair = take size (filter_map (λ q. pair_of e q.0 q.1) (take n (zip (range_with_len 0 16) vs))) in
+    let ys : List Pair = take size (filter_map (λ q. pair_backed e q.0 q.1) (take n (zip (range_with_len 0 16) vs))) in
     let few : i < 8 = omega (arith, h.0, length-zip ks ys, length-range_with_len 0 8) in
     let there : i < length ys = omega (arith, h.0, length-zip ks ys) in
     (ap (λ q. q.0) (h.1 ∙ get_or-zip ks ys i p few there) ∙ get_or-range_with_len 0 8 i p.0 few ∙ zero-add i, few)

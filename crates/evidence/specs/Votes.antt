@@ -30,9 +30,9 @@ abbrev pub backs_entry : Vote → Entry → Bool
 backs_entry v e = equal_entries v.entry e
 
 -- a station's pair, if its vote is for the entry
-abbrev pub pair_of : Entry → ℕ → Option Vote → Option Pair
-pair_of e q None = None
-pair_of e q (Some v) = cond (backs_entry v e) (Some (record { station = q; tag = v.tag })) None
+abbrev pub pair_backed : Entry → ℕ → Option Vote → Option Pair
+pair_backed e q None = None
+pair_backed e q (Some v) = cond (backs_entry v e) (Some (record { station = q; tag = v.tag })) None
 
 -- the lowest `size` of the stations that back an entry, with their tags; eight of them where they are more
 abbrev pub lowest_of : ℕ → List (ℕ × ℕ) → Pairs

@@ -1,19 +1,20 @@
 // Votes, and how many stations back one entry.
 ghost use Rattle.std.specs.Prelude.{◌≡◌, ℕ, ◌≤◌, Bool, true, take, nat_le};
 ghost use Rattle.protocol.specs.Steps.{backers};
-ghost use Rattle.evidence.specs.Votes.{equal_entries, is_for, support_of, backs_entry, pair_of as pair_backed, lowest_of, quorum_of, entry_held};
+ghost use Rattle.evidence.specs.Votes.{equal_entries, is_for, support_of, backs_entry, pair_backed, lowest_of, quorum_of, entry_held};
 
 use base::book::Entry;
 use frames::frame::{Pair, Pairs};
 use protocol::station::Vote;
 
+// Whether two entries agree in all four numbers.
 pub fn same_entry(a: Entry, b: Entry) -> bool
     ensures { result ≡ equal_entries a b }
 {
     a == b
 }
 
-// A vote that some station gave, whatever it votes on.
+// A vote that some station gave, whatever it votes on: so one count serves every kind of vote, and is proved once.
 pub trait Ballot {
     type Subject;
 
@@ -41,7 +42,8 @@ fn is_backer<V: Ballot>(held: &Option<V>, what: &V::Subject) -> bool
     held.as_ref().is_some_and(|vote| vote.is_for(what))
 }
 
-// How many of the first n stations vote for a subject; votes stand at their stations' numbers.
+// How many of the first n stations vote for a subject; votes stand at their stations' numbers. The sixteen are a
+// record's, lent as plain data, and n is a table's: a struct of both would be built for one call only.
 pub fn support<V: Ballot>(votes: &[Option<V>; 16], n: u32, what: &V::Subject) -> u32
     ensures is { result ≡ support_of V.Ballot.backs what.now (take n votes.now) }
     ensures few { result ≤ 16 }
@@ -68,6 +70,7 @@ fn pair_of(station: u8, held: Option<Vote>, what: &Entry) -> Option<Pair>
 fn lowest(votes: &[Option<Vote>; 16], n: u32, size: u8, what: Entry) -> Pairs
     ensures { result ≡ lowest_of size (backers what 0 (take n votes.now)) }
 {
+    // The numbers are bytes from the start, so that none has to be cut to one.
     let backers = (0u8..16)
         .zip(votes)
         .take(n as usize)
@@ -88,7 +91,7 @@ pub fn quorum(votes: &[Option<Vote>; 16], n: u32, size: u32, entry: Entry) -> Op
     (size <= support(votes, n, &entry)).then(|| lowest(votes, n, size as u8, entry))
 }
 
-// The entry of station i's vote; zeros where there is no vote.
+// The entry of station i's vote; zeros where there is no vote, as in the protocol's definition of its own vote.
 pub fn own_entry(votes: &[Option<Vote>; 16], i: u32) -> Entry
     ensures { result ≡ entry_held i votes.now }
 {

@@ -1,7 +1,7 @@
 use Rattle.std.proofs.Common.{◌≡◌, ◌<◌, ◌≤◌, length, refl, arith, rules}
 use Rattle.std.proofs.lemmas.Iterator.{YieldsList-from_range, YieldsList-from_slice, YieldsList-from_take, YieldsList-from_zip}
 use Rattle.std.proofs.lemmas.Iterator.Consumers.{YieldsList-from_filter_map, YieldsList-turn, YieldsList-end}
-use Rattle.evidence.specs.Votes.{pair_of}
+use Rattle.evidence.specs.Votes.{pair_backed}
 use Rattle.evidence.proofs.Backers.{gathered_at, placed_more, placed_all}
 use Rattle.evidence.proofs.votes.lowest.Goals as goal
 
@@ -12,7 +12,7 @@ at_place c =
     gathered_at c.args.what c.args.n c.args.size c.args.votes.now (length c.loop-k.yielded) (c.in-Some.k, c.in-Some.pair)
     (YieldsList-turn (YieldsList-from_zip {s = s} (YieldsList-from_range 0 8 8 (cc) refl)
     (YieldsList-from_take c.args.size
-    (YieldsList-from_filter_map {s = s.b.iter} _ (λ p. pair_of c.args.what p.0 p.1) (YieldsList-from_take c.args.n votes (cc)) refl (λ x r q k. search rules)) (cc)))
+    (YieldsList-from_filter_map {s = s.b.iter} _ (λ p. pair_backed c.args.what p.0 p.1) (YieldsList-from_take c.args.n votes (cc)) refl (λ x r q k. search rules)) (cc)))
     c.loop-k.yielded c.loop-k.k-iterator c.loop-k.yielded_by c.next.result c.next.new.self (c.in-Some.k, c.in-Some.pair) c.in-Some.is c.next.ensures.steps)
 
 pub bounds-each-k : goal.bounds-each-k
@@ -32,6 +32,6 @@ returns c =
     let long : length c.args.votes.now ≤ 16 = omega arith in
     let end = YieldsList-end (YieldsList-from_zip {s = s} (YieldsList-from_range 0 8 8 (cc) refl)
     (YieldsList-from_take c.args.size
-    (YieldsList-from_filter_map {s = s.b.iter} _ (λ p. pair_of c.args.what p.0 p.1) (YieldsList-from_take c.args.n votes (cc)) refl (λ x r q k. search rules)) (cc)))
+    (YieldsList-from_filter_map {s = s.b.iter} _ (λ p. pair_backed c.args.what p.0 p.1) (YieldsList-from_take c.args.n votes (cc)) refl (λ x r q k. search rules)) (cc)))
     c.loop-k.yielded c.loop-k.k-iterator c.loop-k.yielded_by c.next.result c.next.new.self c.in-None.is c.next.ensures.steps in
     placed_all c.args.what c.args.n c.args.size c.args.votes.now c.loop-k.yielded c.loop-k.each long end.0 c.loop-k.invariant.2

@@ -3,37 +3,37 @@ use Rattle.frames.specs.Frames.{first_pair}
 use Rattle.frames.specs.Typed.{plain}
 use Rattle.evidence.specs.Forgery.{faulty_in, unforged}
 use Rattle.evidence.proofs.Search.{pair_next, pair_here, pair_none, slot_here, slot_next, slot_none, few_pairs, pair_unbound, pair_known, pair_unknown}
-use Rattle.evidence.proofs.forgery.forged_pair.Goals as goal
+use Rattle.evidence.proofs.forgery.Grounds.forged_pair.Goals as goal
 
 pub pairs-preserved-then-not-is_bound : goal.pairs-preserved-then-not-is_bound
 pairs-preserved-then-not-is_bound g c =
-    let faulty = faulty_in c.args.table.now in
-    let tag = g.S.Check.tag c.args.seal.now in
+    let faulty = faulty_in c.args.self.now.table.now in
+    let tag = g.S.Check.tag c.args.self.now.seal.now in
     let f = c.args.f.now in
-    let pool = c.args.pool.now in
+    let pool = c.args.self.now.pool.now in
     pair_next (unforged faulty tag f pool) c.as_slice-pairs.result.now c.pairs.k _ _ c.pairs.invariant c.pairs-test.true
     (pair_unbound faulty tag f pool _ c.pair_statement-statement.result c.pair_statement-statement.ensures c.if-not-is_bound.ensures)
 
 pub loop-slot-preserved : goal.loop-slot-preserved
 loop-slot-preserved g c =
-    slot_next c.args.pool.now c.pair_statement-statement.result c.loop-slot.slot-index _ c.loop-slot.invariant c.loop-slot-test.true (sym c.if-begins.ensures)
+    slot_next c.args.self.now.pool.now c.pair_statement-statement.result c.loop-slot.slot-index _ c.loop-slot.invariant c.loop-slot-test.true (sym c.if-begins.ensures)
 
 pub pairs-preserved : goal.pairs-preserved
 pairs-preserved g c =
-    let faulty = faulty_in c.args.table.now in
-    let tag = g.S.Check.tag c.args.seal.now in
+    let faulty = faulty_in c.args.self.now.table.now in
+    let tag = g.S.Check.tag c.args.self.now.seal.now in
     let f = c.args.f.now in
-    let pool = c.args.pool.now in
+    let pool = c.args.self.now.pool.now in
     let here = slot_here pool c.pair_statement-statement.result c.loop-slot.slot-index _ c.loop-slot.invariant c.loop-slot-test.true (sym c.if-begins.ensures) in
     pair_next (unforged faulty tag f pool) c.as_slice-pairs.result.now c.pairs.k _ _ c.pairs.invariant c.pairs-test.true
     (pair_known faulty tag f pool _ c.pair_statement-statement.result c.pair_statement-statement.ensures c.if-not-is_bound.ensures here)
 
 pub returns-after-loop-slot : goal.returns-after-loop-slot
 returns-after-loop-slot g c =
-    let faulty = faulty_in c.args.table.now in
-    let tag = g.S.Check.tag c.args.seal.now in
+    let faulty = faulty_in c.args.self.now.table.now in
+    let tag = g.S.Check.tag c.args.self.now.seal.now in
     let f = c.args.f.now in
-    let pool = c.args.pool.now in
+    let pool = c.args.self.now.pool.now in
     let none = slot_none pool c.pair_statement-statement.result c.loop-slot.slot-index c.loop-slot.invariant c.loop-slot-test.false in
     ap Some c.place_of.ensures
     ∙ sym (pair_here (unforged faulty tag f pool) c.as_slice-pairs.result.now c.pairs.k _ _ c.pairs.invariant c.pairs-test.true
@@ -42,6 +42,6 @@ returns-after-loop-slot g c =
 
 pub returns-after-pairs : goal.returns-after-pairs
 returns-after-pairs g c =
-    let good = unforged (faulty_in c.args.table.now) (g.S.Check.tag c.args.seal.now) c.args.f.now c.args.pool.now in
+    let good = unforged (faulty_in c.args.self.now.table.now) (g.S.Check.tag c.args.self.now.seal.now) c.args.f.now c.args.self.now.pool.now in
     sym (pair_none good c.as_slice-pairs.result.now c.pairs.k _ c.pairs.invariant c.pairs-test.false)
     ∙ ap (λ l. first_pair good 32 (map plain l)) c.as_slice-pairs.ensures.is
