@@ -1,14 +1,13 @@
 -- The stations that back an entry: how many they are, and the pairs of the lowest of them.
-use Rattle.std.proofs.Common.{◌≡◌, ℕ, zero, suc, ◌+◌, ◌-◌, ◌<◌, ◌≤◌, min, Bool, true, false, cond, ◌⊎◌, List, [], ◌∷◌, ◌++◌, map, length, get_or, take, drop, set, replicate, Some, None, Option, sym, refl, ap, ◌∙◌, ap₂, inl, inr, add-zero, zero-add, arith}
+use Rattle.std.proofs.Common.{◌≡◌, ℕ, zero, suc, ◌+◌, ◌-◌, ◌<◌, ◌≤◌, Bool, true, false, cond, List, [], ◌∷◌, ◌++◌, map, length, get_or, take, set, replicate, Some, None, Option, sym, refl, ap, ◌∙◌, ap₂, zero-add, arith}
 use Rattle.std.specs.List.{filter_map, zip, range_with_len, cons_option}
 use Rattle.std.proofs.lemmas.List.FromFn.{length-range_with_len, get_or-range_with_len}
 use Rattle.std.proofs.lemmas.Slice.Zip.{length-zip, get_or-zip}
-use Rattle.std.proofs.lemmas.List.{take-map, map-id, append_assoc, append-nil, length-append, length-map, length-take-le, set_at, take_all, take-append-drop, take_at, take_more, take-take, map-append}
-use Rattle.std.proofs.lemmas.List.Sums.{count_by-le-length, sum_by-cons}
+use Rattle.std.proofs.lemmas.List.{take-map, map-id, append_assoc, length-append, length-map, set_at, map-append}
+use Rattle.std.proofs.lemmas.List.Sums.{sum_by-cons}
 use Rattle.base.specs.declared.book.Entry.{Entry}
 use Rattle.frames.specs.declared.frame.Pair.{Pair}
-use Rattle.frames.specs.Typed.{no_pair, pair_at, plain, listed}
-use Rattle.frames.proofs.Packed.{take_least}
+use Rattle.frames.specs.Typed.{no_pair, pair_at}
 use Rattle.protocol.specs.declared.station.Vote.{Vote}
 use Rattle.protocol.specs.Steps.{same_entry, backers}
 use Rattle.evidence.specs.Votes.{pair_backed, is_for, weight_of, support_of, backs_entry, lowest_of}

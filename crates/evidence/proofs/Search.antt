@@ -1,17 +1,16 @@
 -- Searches, one pair and one slot at a time.
-use Rattle.std.proofs.Common.{◌≡◌, ◌||◌, [], ℕ, ◌+◌, ◌*◌, ◌<◌, ◌≤◌, min, Bool, true, false, not, eqb, leb, List, ◌∷◌, map, cond, nat_lt, length, get_or, take, drop, Some, None, Decides, Option, sym, refl, ap, ◌∙◌, ap₂, arith, rules, tests, suc, add-zero}
+use Rattle.std.proofs.Common.{◌≡◌, ◌||◌, [], ℕ, ◌+◌, ◌*◌, ◌<◌, ◌≤◌, Bool, true, false, not, eqb, leb, List, ◌∷◌, map, cond, nat_lt, length, get_or, take, drop, Some, None, Decides, Option, sym, refl, ap, ◌∙◌, ap₂, arith, rules, tests, suc, add-zero}
 use Rattle.std.specs.Option.{option_map}
 use Rattle.std.specs.List.{list_any, position, position_or_len}
 use Rattle.std.proofs.lemmas.Slice.Eq.{compares_Decides}
-use Rattle.std.proofs.lemmas.List.{at_drop_more, at_drop_all, length-take}
+use Rattle.std.proofs.lemmas.List.{at_drop_more, at_drop_all}
 use Rattle.std.proofs.lemmas.Bool.Decides.{same_from_decides, Decides-like, nat_tests}
 use Rattle.frames.specs.declared.frame.Pair.{Pair}
-use Rattle.frames.specs.declared.frame.Pairs.{Pairs}
 use Rattle.frames.specs.declared.frame.Frame.{Frame}
 use Rattle.frames.specs.declared.slot.Slot.{Slot}
 use Rattle.frames.specs.Frames.{◌and◌, ◌or◌, first_pair}
 use Rattle.frames.specs.Slots.{framed, same_bytes, issued}
-use Rattle.frames.specs.Typed.{plain, listed, stated, pair_stated}
+use Rattle.frames.specs.Typed.{plain, stated, pair_stated}
 use Rattle.frames.proofs.Basics.{never, and_true}
 use Rattle.evidence.specs.Forgery.{of_step, step_begins, bound, unissued, unforged, forged_sender_in}
 
@@ -69,28 +68,12 @@ pair_none good pairs k r sofar h = sofar ∙ at_drop_all (λ l. first_pair good 
 
 -- Slots
 
-or_here : (a b : Bool) → a ≡ true → (a or b) ≡ true
-or_here a b h = rw h refl
-
-or_later : (a b : Bool) → a ≡ false → (a or b) ≡ b
-or_later a b h = rw h refl
-
-module _ (pool : List Slot) (s : List ℕ) (k : ℕ) (d : Slot) (sofar : issued s pool ≡ issued s (drop k pool)) where
-  pub slot_here : k < length pool → step_begins s (get_or pool k d) ≡ true → issued s pool ≡ true
-  slot_here h t = sofar ∙ at_drop_more (issued s) pool k d h ∙ or_here (step_begins s (get_or pool k d)) (issued s (drop (k + 1) pool)) t
-
-  pub slot_next : k < length pool → step_begins s (get_or pool k d) ≡ false → issued s pool ≡ issued s (drop (k + 1) pool)
-  slot_next h t = sofar ∙ at_drop_more (issued s) pool k d h ∙ or_later (step_begins s (get_or pool k d)) (issued s (drop (k + 1) pool)) t
-
-pub slot_none : (pool : List Slot) (s : List ℕ) (k : ℕ) → issued s pool ≡ issued s (drop k pool) → length pool ≤ k → issued s pool ≡ false
-slot_none pool s k sofar h = sofar ∙ at_drop_all (issued s) pool k h
-
--- as a test of any slot
-pub issued_is : (s : List ℕ) (pool : List Slot) → list_any (step_begins s) pool ≡ issued s pool
+-- some slot has it
+pub issued_is : (s : List ℕ) (pool : List Slot) → issued s pool ≡ list_any (step_begins s) pool
 issued_is s [] = refl
 issued_is s (x ∷ xs) = go (step_begins s x) (issued_is s xs)
   where
-    go : (b : Bool) {l r : Bool} → l ≡ r → (b || l) ≡ (b or r)
+    go : (b : Bool) {l r : Bool} → l ≡ r → (b or l) ≡ (b || r)
     go true e = refl
     go false e = e
 
@@ -151,7 +134,3 @@ module _ (faulty : ℕ → Bool) (tag : ℕ → List ℕ → ℕ) (f : Frame) (p
 
   pub sender_unbound : false ≡ bound faulty tag f.sender s f.tag → false ≡ forged_sender_in faulty tag f pool
   sender_unbound e = sym (sender_is ∙ unbound faulty tag f.sender s f.tag pool e)
-
--- at most eight pairs are there
-pub few_pairs : (ps : Pairs) (l : List Pair) → l ≡ listed ps → length l ≤ 8
-few_pairs ps l e = omega (arith, ap length e, length-take (min ps.count 8) ps.each)

@@ -1,6 +1,6 @@
-use Rattle.std.proofs.Common.{◌≡◌, drop}
-use Rattle.frames.specs.Slots.{issued}
-use Rattle.evidence.specs.Forgery.{faulty_in, unforged}
+use Rattle.std.proofs.Common.{◌≡◌, false, take}
+use Rattle.std.specs.List.{list_any}
+use Rattle.evidence.specs.Forgery.{faulty_in, step_begins, unforged}
 use Rattle.evidence.proofs.Search.{from}
 use Rattle.evidence.proofs.forgery.Grounds.forged_pair.Given as goal
 
@@ -10,4 +10,4 @@ invariant-pairs g l =
     from good 0 l.pairs ≡ from good l.k l.pairs
 
 abbrev pub invariant-loop-slot : goal.invariant-loop-slot
-invariant-loop-slot g l = issued l.statement l.self.pool.now ≡ issued l.statement (drop l.slot-index l.self.pool.now)
+invariant-loop-slot g l = list_any (step_begins l.statement) (take l.slot-index l.self.pool.now) ≡ false
