@@ -11,5 +11,3 @@ returns-then-is_of_step c =
     begins_is c.args.slot.now s frame c.starts_with.result c.if-is_of_step.ensures c.frame.ensures (omega arith)
     (slice_eq-Decides Decides-eqb s (take (length s) frame) c.starts_with.result c.starts_with.ensures.value)
 
-pub returns-else-is_of_step : goal.returns-else-is_of_step
-returns-else-is_of_step c = c.if-is_of_step.false ∙ begins_not c.args.slot.now c.args.statement.now c.if-is_of_step.ensures

@@ -8,15 +8,6 @@ use Rattle.evidence.specs.Forgery.{faulty_in, step_begins, unforged}
 use Rattle.evidence.proofs.Search.{pair_next, pair_here, pair_none, issued_is, pair_unbound, pair_known, pair_unknown}
 use Rattle.evidence.proofs.forgery.Grounds.forged_pair.Goals as goal
 
-pub pairs-preserved-then-not-is_bound : goal.pairs-preserved-then-not-is_bound
-pairs-preserved-then-not-is_bound g c =
-    let faulty = faulty_in c.args.self.now.table.now in
-    let tag = g.S.Check.tag c.args.self.now.seal.now in
-    let f = c.args.f.now in
-    let pool = c.args.self.now.pool.now in
-    pair_next (unforged faulty tag f pool) c.as_slice-pairs.result.now c.pairs.k _ _ c.pairs.invariant c.pairs-test.true
-    (pair_unbound faulty tag f pool _ c.pair_statement-statement.result c.pair_statement-statement.ensures c.if-not-is_bound.ensures)
-
 pub pairs-preserved : goal.pairs-preserved
 pairs-preserved g c =
     let faulty = faulty_in c.args.self.now.table.now in
@@ -39,8 +30,3 @@ returns-after-loop-slot g c =
     (pair_unknown faulty tag f pool _ c.pair_statement-statement.result c.pair_statement-statement.ensures c.if-not-is_bound.ensures none))
     ∙ ap (λ l. first_pair (unforged faulty tag f pool) 32 (map plain l)) c.as_slice-pairs.ensures.is
 
-pub returns-after-pairs : goal.returns-after-pairs
-returns-after-pairs g c =
-    let good = unforged (faulty_in c.args.self.now.table.now) (g.S.Check.tag c.args.self.now.seal.now) c.args.f.now c.args.self.now.pool.now in
-    sym (pair_none good c.as_slice-pairs.result.now c.pairs.k _ c.pairs.invariant c.pairs-test.false)
-    ∙ ap (λ l. first_pair good 32 (map plain l)) c.as_slice-pairs.ensures.is
