@@ -1,9 +1,9 @@
 -- Searches, one pair and one slot at a time.
-use Rattle.std.proofs.Common.{◌≡◌, ◌||◌, [], ℕ, ◌+◌, ◌*◌, ◌<◌, ◌≤◌, Bool, true, false, not, eqb, leb, List, ◌∷◌, map, cond, nat_lt, length, get_or, take, drop, Some, None, Decides, Option, sym, refl, ap, ◌∙◌, ap₂, arith, rules, tests, suc, add-zero}
+use Rattle.std.proofs.Common.{◌≡◌, ◌||◌, [], ℕ, ◌+◌, ◌*◌, ◌<◌, Bool, true, false, not, eqb, leb, List, ◌∷◌, map, cond, nat_lt, length, get_or, take, drop, Some, None, Decides, Option, sym, refl, ap, ◌∙◌, ap₂, arith, rules, tests, suc, add-zero}
 use Rattle.std.specs.Option.{option_map}
 use Rattle.std.specs.List.{list_any, position, position_or_len}
 use Rattle.std.proofs.lemmas.Slice.Eq.{compares_Decides}
-use Rattle.std.proofs.lemmas.List.{at_drop_more, at_drop_all}
+use Rattle.std.proofs.lemmas.List.{at_drop_more}
 use Rattle.std.proofs.lemmas.Bool.Decides.{same_from_decides, Decides-like, nat_tests}
 use Rattle.frames.specs.declared.frame.Pair.{Pair}
 use Rattle.frames.specs.declared.frame.Frame.{Frame}
@@ -63,9 +63,6 @@ module _ (good : ℕ × ℕ → Bool) (pairs : List Pair) (k : ℕ) (d : Pair) (
       sofar ∙ at_drop_more (λ l. first_pair good (32 + 9 * k) (map plain l)) pairs k d h
       ∙ first_bad good (32 + 9 * k) (plain (get_or pairs k d)) (map plain (drop (k + 1) pairs)) g
 
-pub pair_none : (good : ℕ × ℕ → Bool) (pairs : List Pair) (k : ℕ) (r : Option ℕ) → r ≡ from good k pairs → length pairs ≤ k → r ≡ None
-pair_none good pairs k r sofar h = sofar ∙ at_drop_all (λ l. first_pair good (32 + 9 * k) (map plain l)) pairs k h
-
 -- Slots
 
 -- some slot has it
@@ -87,14 +84,6 @@ begins_is x s frame r step is size decides =
     (compares_Decides same_bytes (search rules) (take 24 (framed x)) s)
     ∙ sym (ap₂ (λ a b. a and b and same_bytes (take 24 (framed x)) s) p.0 p.1)
 
-pub begins_not : (x : Slot) (s : List ℕ) → false ≡ of_step x → false ≡ step_begins s x
-begins_not x s step = go (eqb x.by 0) (leb 1 x.len) step
-  where
-    go : (a b : Bool) → false ≡ (a and b) → false ≡ (a and b and same_bytes (take 24 (framed x)) s)
-    go true true e = never e
-    go true false e = refl
-    go false b e = refl
-
 -- Statements under a tag
 
 module _ (faulty : ℕ → Bool) (tag : ℕ → List ℕ → ℕ) (station : ℕ) (s : List ℕ) (shown : ℕ) (pool : List Slot) where
@@ -114,9 +103,6 @@ module _ (faulty : ℕ → Bool) (tag : ℕ → List ℕ → ℕ) (station : ℕ
 module _ (faulty : ℕ → Bool) (tag : ℕ → List ℕ → ℕ) (f : Frame) (pool : List Slot) (p : ℕ × ℕ) (s : List ℕ) (is : s ≡ pair_stated f p.0) where
   abbrev test : List ℕ → Bool
   test l = not (unissued faulty tag p.0 l p.1 pool)
-
-  pub pair_unbound : false ≡ bound faulty tag p.0 s p.1 → unforged faulty tag f pool p ≡ true
-  pair_unbound e = ap test (sym is) ∙ ap not (unbound faulty tag p.0 s p.1 pool e)
 
   pub pair_known : true ≡ bound faulty tag p.0 s p.1 → issued s pool ≡ true → unforged faulty tag f pool p ≡ true
   pair_known e i = ap test (sym is) ∙ ap not (bound_by faulty tag p.0 s p.1 pool e ∙ ap not i)

@@ -1,6 +1,6 @@
-use Rattle.std.proofs.Common.{length, take, ◌∙◌, arith}
+use Rattle.std.proofs.Common.{length, take, arith}
 use Rattle.std.proofs.lemmas.Slice.Eq.{slice_eq-Decides}
-use Rattle.evidence.proofs.Search.{begins_is, begins_not}
+use Rattle.evidence.proofs.Search.{begins_is}
 use Rattle.evidence.proofs.forgery.begins.Goals as goal
 use Rattle.std.proofs.lemmas.Bool.Decides.{Decides-eqb}
 

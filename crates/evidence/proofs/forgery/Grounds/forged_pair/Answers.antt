@@ -5,7 +5,7 @@ use Rattle.std.proofs.lemmas.List.Folds.{list_any_at}
 use Rattle.frames.specs.Frames.{first_pair}
 use Rattle.frames.specs.Typed.{plain}
 use Rattle.evidence.specs.Forgery.{faulty_in, step_begins, unforged}
-use Rattle.evidence.proofs.Search.{pair_next, pair_here, pair_none, issued_is, pair_unbound, pair_known, pair_unknown}
+use Rattle.evidence.proofs.Search.{pair_next, pair_here, issued_is, pair_known, pair_unknown}
 use Rattle.evidence.proofs.forgery.Grounds.forged_pair.Goals as goal
 
 pub pairs-preserved : goal.pairs-preserved
