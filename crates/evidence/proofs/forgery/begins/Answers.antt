@@ -10,4 +10,3 @@ returns-then-is_of_step c =
     let frame = c.frame.result.now in
     begins_is c.args.slot.now s frame c.starts_with.result c.if-is_of_step.ensures c.frame.ensures (omega arith)
     (slice_eq-Decides Decides-eqb s (take (length s) frame) c.starts_with.result c.starts_with.ensures.value)
-

@@ -29,4 +29,3 @@ returns-after-loop-slot g c =
     ∙ sym (pair_here (unforged faulty tag f pool) c.as_slice-pairs.result.now c.pairs.k _ _ c.pairs.invariant c.pairs-test.true
     (pair_unknown faulty tag f pool _ c.pair_statement-statement.result c.pair_statement-statement.ensures c.if-not-is_bound.ensures none))
     ∙ ap (λ l. first_pair (unforged faulty tag f pool) 32 (map plain l)) c.as_slice-pairs.ensures.is
-
