@@ -1,18 +1,16 @@
--- The stations that back an entry: how many they are, and the lowest of them one by one.
-use Rattle.std.proofs.Common.{◌≡◌, ℕ, zero, suc, ◌+◌, ◌-◌, ◌<◌, ◌≤◌, min, Bool, true, false, cond, ◌⊎◌, List, [], ◌∷◌, ◌++◌, map, length, get_or, take, drop, set, replicate, Some, None, Option, sym, refl, ap, ◌∙◌, ap₂, inl, inr, add-zero, zero-add, arith}
-use Rattle.std.proofs.lemmas.List.{append_assoc, append-nil, length-append, length-map, length-take-le, set_at, take_all, take-append-drop, take_at, take_more, take-take, map-append}
-use Rattle.std.proofs.lemmas.List.Sums.{count_by-le-length, sum_by-cons}
+-- The stations that back an entry: how many they are, and the pairs of the lowest of them.
+use Rattle.std.proofs.Common.{◌≡◌, ℕ, zero, suc, ◌+◌, ◌-◌, ◌<◌, ◌≤◌, Bool, true, false, cond, List, [], ◌∷◌, ◌++◌, map, length, get_or, take, set, replicate, Some, None, Option, sym, refl, ap, ◌∙◌, ap₂, zero-add, arith}
+use Rattle.std.specs.List.{filter_map, zip, range_with_len, cons_option}
+use Rattle.std.proofs.lemmas.List.FromFn.{length-range_with_len, get_or-range_with_len}
+use Rattle.std.proofs.lemmas.Slice.Zip.{length-zip, get_or-zip}
+use Rattle.std.proofs.lemmas.List.{take-map, map-id, append_assoc, length-append, length-map, set_at, map-append}
+use Rattle.std.proofs.lemmas.List.Sums.{sum_by-cons}
 use Rattle.base.specs.declared.book.Entry.{Entry}
 use Rattle.frames.specs.declared.frame.Pair.{Pair}
-use Rattle.frames.specs.Typed.{no_pair, pair_at, plain, listed}
-use Rattle.frames.proofs.Packed.{take_least}
+use Rattle.frames.specs.Typed.{no_pair, pair_at}
 use Rattle.protocol.specs.declared.station.Vote.{Vote}
 use Rattle.protocol.specs.Steps.{same_entry, backers}
-use Rattle.evidence.specs.Votes.{is_for, weight_of, support_of, backs_entry, lowest_of}
-
-take_nil : {X : Type 0} (n : ℕ) → take {A = X} n [] ≡ []
-take_nil zero = refl
-take_nil (suc n) = refl
+use Rattle.evidence.specs.Votes.{pair_backed, is_for, weight_of, support_of, backs_entry, lowest_of}
 
 -- one station
 backers_yes : (e : Entry) (q : ℕ) (v : Vote) (vs : List (Option Vote)) → backs_entry v e ≡ true → backers e q (Some v ∷ vs) ≡ (q, v.tag) ∷ backers e (q + 1) vs
@@ -31,14 +29,6 @@ backers_none : (e : Entry) (q : ℕ) (vs : List (Option Vote)) → backers e q (
 unfolding backers
 backers_none e q vs = refl
 
--- no station counts twice
-pub light : {V S : Type 0} (backs : V → S → Bool) (what : S) (o : Option V) (w : ℕ) → w ≡ weight_of backs what o → w ≤ 1
-light backs what o w h = go (is_for backs what o) h
-  where
-    go : (b : Bool) → w ≡ cond b 1 0 → w ≤ 1
-    go true e = omega arith
-    go false e = omega arith
-
 support_cons : (e : Entry) (o : Option Vote) (vs : List (Option Vote)) → support_of backs_entry e (o ∷ vs) ≡ cond (is_for backs_entry e o) 1 0 + support_of backs_entry e vs
 support_cons e o vs = sum_by-cons (weight_of backs_entry e) o vs
 
@@ -53,77 +43,43 @@ support-backers e q (Some v ∷ vs) = support_cons e (Some v) vs ∙ go (backs_e
     go true h ih = ap (λ (b : Bool). cond b 1 0 + support_of backs_entry e vs) h ∙ omega (arith, ih) ∙ sym (ap length (backers_yes e q v vs h))
     go false h ih = ap (λ (b : Bool). cond b 1 0 + support_of backs_entry e vs) h ∙ omega (arith, ih) ∙ sym (ap length (backers_no e q v vs h))
 
-pub length-backers : (e : Entry) (q : ℕ) (vs : List (Option Vote)) → length (backers e q vs) ≤ length vs
-length-backers e q vs = omega (arith, support-backers e q vs, count_by-le-length (is_for backs_entry e) vs)
-
-backers_append : (e : Entry) (q : ℕ) (xs ys : List (Option Vote)) → backers e q (xs ++ ys) ≡ backers e q xs ++ backers e (q + length xs) ys
-backers_append e q [] ys = ap (λ k. backers e k ys) (sym (add-zero q)) ∙ sym (ap (λ r. r ++ backers e (q + 0) ys) (backers_nil e q))
-backers_append e q (None ∷ xs) ys =
-    let k : q + 1 + length xs ≡ q + suc (length xs) = omega arith in
-    backers_none e q (xs ++ ys) ∙ backers_append e (q + 1) xs ys
-    ∙ ap₂ (λ r j. r ++ backers e j ys) (sym (backers_none e q xs)) k
-backers_append e q (Some v ∷ xs) ys = go (backs_entry v e) refl (backers_append e (q + 1) xs ys)
-  where
-    k : q + 1 + length xs ≡ q + suc (length xs)
-    k = omega arith
-
-    go : (b : Bool) → backs_entry v e ≡ b → backers e (q + 1) (xs ++ ys) ≡ backers e (q + 1) xs ++ backers e (q + 1 + length xs) ys
-        → backers e q (Some v ∷ xs ++ ys) ≡ backers e q (Some v ∷ xs) ++ backers e (q + suc (length xs)) ys
-    go true h ih =
-        backers_yes e q v (xs ++ ys) h ∙ ap (λ r. (q, v.tag) ∷ r) ih ∙ ap₂ (λ r j. r ++ backers e j ys) (sym (backers_yes e q v xs h)) k
-    go false h ih = backers_no e q v (xs ++ ys) h ∙ ih ∙ ap₂ (λ r j. r ++ backers e j ys) (sym (backers_no e q v xs h)) k
-
--- the stations below q come first
-backers_front : (e : Entry) (q : ℕ) (vs : List (Option Vote)) → backers e 0 vs ≡ backers e 0 (take q vs) ++ backers e (0 + length (take q vs)) (drop q vs)
-backers_front e q vs = ap (backers e 0) (sym (take-append-drop q vs)) ∙ backers_append e 0 (take q vs) (drop q vs)
-
 -- The loop that gathers pairs
 
-take_both : {X : Type 0} (m n : ℕ) (xs : List X) → take m (take n xs) ≡ take (min n m) xs
-take_both m zero xs = let k : 0 ≡ min 0 m = omega arith in take_nil m ∙ ap (λ j. take j xs) k
-take_both zero (suc n) xs = let k : 0 ≡ min (suc n) 0 = omega arith in ap (λ j. take j xs) k
-take_both (suc m) (suc n) [] = sym (take_nil (min (suc n) (suc m)))
-take_both (suc m) (suc n) (x ∷ xs) =
-    let k : min (suc n) (suc m) ≡ suc (min n m) = omega arith in
-    ap (λ r. x ∷ r) (take_both m n xs) ∙ sym (ap (λ j. take j (x ∷ xs)) k)
+-- what it goes over: as many of their pairs as there is room for, each with its place
+abbrev pub gathered : Entry → ℕ → ℕ → List (Option Vote) → List (ℕ × Pair)
+gathered e n size vs = zip (range_with_len 0 8) (take size (filter_map (λ p. pair_backed e p.0 p.1) (take n (zip (range_with_len 0 16) vs))))
 
--- the stations below q, in front of empty places
-pub record Gathered (e : Entry) (vs : List (Option Vote)) (q filled : ℕ) (each : List Pair) : Type 0 where
-  pub count : filled ≡ length (backers e 0 (take q vs))
-  pub pairs : each ≡ map pair_at (backers e 0 (take q vs)) ++ replicate (8 - filled) no_pair
+no_votes : (e : Entry) (q n : ℕ) → filter_map (λ p. pair_backed e p.0 p.1) (take {A = ℕ × Option Vote} n []) ≡ map pair_at (backers e q (take {A = Option Vote} n []))
+no_votes e q zero = ap (map pair_at) (sym (backers_nil e q))
+no_votes e q (suc n) = ap (map pair_at) (sym (backers_nil e q))
 
-pub gathered_none : (e : Entry) (vs : List (Option Vote)) → Gathered e vs 0 0 (replicate 8 no_pair)
-gathered_none e vs = record { count = sym (ap length (backers_nil e 0)); pairs = sym (ap (λ r. map pair_at r ++ replicate 8 no_pair) (backers_nil e 0)) }
+-- the pairs of stations from q on
+pairs_backed : (e : Entry) (q m n : ℕ) (vs : List (Option Vote)) → length vs ≤ m
+    → filter_map (λ p. pair_backed e p.0 p.1) (take n (zip (range_with_len q m) vs)) ≡ map pair_at (backers e q (take n vs))
+pairs_backed e q zero n [] h = no_votes e q n
+pairs_backed e q (suc m) n [] h = no_votes e q n
+pairs_backed e q zero n (v ∷ vs) h = absurd (omega arith)
+pairs_backed e q (suc m) zero (v ∷ vs) h = ap (map pair_at) (sym (backers_nil e q))
+pairs_backed e q (suc m) (suc n) (None ∷ vs) h = pairs_backed e (q + 1) m n vs (omega arith) ∙ ap (map pair_at) (sym (backers_none e q (take n vs)))
+pairs_backed e q (suc m) (suc n) (Some v ∷ vs) h = go (backs_entry v e) refl (pairs_backed e (q + 1) m n vs (omega arith))
+  where
+    test : ℕ × Option Vote → Option Pair
+    test p = pair_backed e p.0 p.1
 
--- one station more
-backers_last : (e : Entry) (vs : List (Option Vote)) (q : ℕ) (d : Option Vote) → q < length vs → backers e 0 (take (q + 1) vs) ≡ backers e 0 (take q vs) ++ backers e q (get_or vs q d ∷ [])
-backers_last e vs q d h =
-    let k : 0 + length (take q vs) ≡ q = zero-add _ ∙ length-take-le q vs (omega arith) in
-    ap (backers e 0) (take_more vs q d h) ∙ backers_append e 0 (take q vs) (get_or vs q d ∷ [])
-    ∙ ap (λ j. backers e 0 (take q vs) ++ backers e j (get_or vs q d ∷ [])) k
+    go : (b : Bool) → backs_entry v e ≡ b → filter_map test (take n (zip (range_with_len (q + 1) m) vs)) ≡ map pair_at (backers e (q + 1) (take n vs))
+        → filter_map test (take (suc n) (zip (range_with_len q (suc m)) (Some v ∷ vs))) ≡ map pair_at (backers e q (Some v ∷ take n vs))
+    go true b ih =
+        ap (λ (c : Bool). cons_option (cond c (Some (pair_at (q, v.tag))) None) (filter_map test (take n (zip (range_with_len (q + 1) m) vs)))) b
+        ∙ ap (λ r. pair_at (q, v.tag) ∷ r) ih ∙ ap (map pair_at) (sym (backers_yes e q v (take n vs) b))
+    go false b ih =
+        ap (λ (c : Bool). cons_option (cond c (Some (pair_at (q, v.tag))) None) (filter_map test (take n (zip (range_with_len (q + 1) m) vs)))) b
+        ∙ ih ∙ ap (map pair_at) (sym (backers_no e q v (take n vs) b))
 
-same-backers : (e : Entry) (vs : List (Option Vote)) (q filled : ℕ) (each : List Pair)
-    → backers e 0 (take (q + 1) vs) ≡ backers e 0 (take q vs) → Gathered e vs q filled each → Gathered e vs (q + 1) filled each
-same-backers e vs q filled each same g = record {
-  count = g.count ∙ ap length (sym same);
-  pairs = g.pairs ∙ ap (λ r. map pair_at r ++ replicate (8 - filled) no_pair) (sym same);
-}
-
-pub gathered_absent : (e : Entry) (vs : List (Option Vote)) (q filled : ℕ) (each : List Pair) (d : Option Vote) → q < length vs → get_or vs q d ≡ None
-    → Gathered e vs q filled each → Gathered e vs (q + 1) filled each
-gathered_absent e vs q filled each d h v g =
-    same-backers e vs q filled each
-    (backers_last e vs q d h ∙ ap (λ x. backers e 0 (take q vs) ++ backers e q (x ∷ [])) v
-    ∙ ap (λ r. backers e 0 (take q vs) ++ r) (backers_none e q [] ∙ backers_nil e (q + 1)) ∙ append-nil (backers e 0 (take q vs)))
-    g
-
-pub gathered_other : (e : Entry) (vs : List (Option Vote)) (q filled : ℕ) (each : List Pair) (d : Option Vote) (v : Vote) → q < length vs → get_or vs q d ≡ Some v
-    → backs_entry v e ≡ false → Gathered e vs q filled each → Gathered e vs (q + 1) filled each
-gathered_other e vs q filled each d v h is b g =
-    same-backers e vs q filled each
-    (backers_last e vs q d h ∙ ap (λ x. backers e 0 (take q vs) ++ backers e q (x ∷ [])) is
-    ∙ ap (λ r. backers e 0 (take q vs) ++ r) (backers_no e q v [] b ∙ backers_nil e (q + 1)) ∙ append-nil (backers e 0 (take q vs)))
-    g
+-- places beside values are cut where either ends
+seconds : {X : Type 0} (q m : ℕ) (xs : List X) → map (λ p. p.1) (zip (range_with_len q m) xs) ≡ take m xs
+seconds q zero xs = refl
+seconds q (suc m) [] = refl
+seconds q (suc m) (x ∷ xs) = ap (λ r. x ∷ r) (seconds (q + 1) m xs)
 
 fill : (xs : List Pair) (n k : ℕ) (v : Pair) → length xs ≡ k → k < n → set (xs ++ replicate (n - k) no_pair) k v ≡ (xs ++ v ∷ []) ++ replicate (n - (k + 1)) no_pair
 fill xs n k v l h =
@@ -131,56 +87,34 @@ fill xs n k v l h =
     ap (λ m. set (xs ++ replicate m no_pair) k v) e ∙ set_at xs no_pair (replicate (n - (k + 1)) no_pair) v k l
     ∙ sym (append_assoc xs (v ∷ []) (replicate (n - (k + 1)) no_pair))
 
-pub gathered_more : (e : Entry) (vs : List (Option Vote)) (q filled : ℕ) (each : List Pair) (d : Option Vote) (v : Vote) → q < length vs → get_or vs q d ≡ Some v
-    → backs_entry v e ≡ true → filled < 8 → Gathered e vs q filled each → Gathered e vs (q + 1) (filled + 1) (set each filled (record { station = q; tag = v.tag }))
-gathered_more e vs q filled each d v h is b room g =
-    let old : List (ℕ × ℕ) = backers e 0 (take q vs) in
-    let new : backers e 0 (take (q + 1) vs) ≡ old ++ (q, v.tag) ∷ [] =
-    backers_last e vs q d h ∙ ap (λ x. old ++ backers e q (x ∷ [])) is
-    ∙ ap (λ r. old ++ r) (backers_yes e q v [] b ∙ ap (λ r. (q, v.tag) ∷ r) (backers_nil e (q + 1))) in
-    let long : length (map pair_at old) ≡ filled = length-map old pair_at ∙ sym g.count in
-    record {
-      count = ap (λ k. k + 1) g.count ∙ sym (ap length new ∙ length-append old ((q, v.tag) ∷ []));
-      pairs = ap (λ x. set x filled (pair_at (q, v.tag))) g.pairs ∙ fill (map pair_at old) 8 filled (pair_at (q, v.tag)) long room
-          ∙ ap (λ r. r ++ replicate (8 - (filled + 1)) no_pair) (sym (map-append pair_at old ((q, v.tag) ∷ [])) ∙ ap (map pair_at) (sym new));
-    }
+-- the pairs so far, in front of empty places
+abbrev pub placed : List (ℕ × Pair) → List Pair
+placed done = map (λ p. p.1) done ++ replicate (8 - length done) no_pair
 
--- at the end there are as many as there is room for, or else all
-pub gathered_all : (e : Entry) (vs : List (Option Vote)) (n q filled size : ℕ) (each : List Pair) → q ≤ n
-    → (filled ≡ min size 8) ⊎ ((length vs ≤ q) ⊎ (n ≤ q)) → filled ≤ min size 8
-    → Gathered e vs q filled each → record { count = size; each = each } ≡ lowest_of size (backers e 0 (take n vs))
-gathered_all e vs n q filled size each low end most g =
+-- an item's place is its number
+pub gathered_at : (e : Entry) (n size : ℕ) (vs : List (Option Vote)) (i : ℕ) (p : ℕ × Pair)
+    → (i < length (gathered e n size vs)) × (p ≡ get_or (gathered e n size vs) i p) → (p.0 ≡ i) × (i < 8)
+gathered_at e n size vs i p h =
+    let ks : List ℕ = range_with_len 0 8 in
+    let ys : List Pair = take size (filter_map (λ q. pair_backed e q.0 q.1) (take n (zip (range_with_len 0 16) vs))) in
+    let few : i < 8 = omega (arith, h.0, length-zip ks ys, length-range_with_len 0 8) in
+    let there : i < length ys = omega (arith, h.0, length-zip ks ys) in
+    (ap (λ q. q.0) (h.1 ∙ get_or-zip ks ys i p few there) ∙ get_or-range_with_len 0 8 i p.0 few ∙ zero-add i, few)
+
+-- one pair more
+pub placed_more : (done : List (ℕ × Pair)) (each : List Pair) (p : ℕ × Pair) → (p.0 ≡ length done) × (length done < 8) → each ≡ placed done → set each p.0 p.1 ≡ placed (done ++ p ∷ [])
+placed_more done each p h e =
+    ap₂ (λ xs k. set xs k p.1) e h.0 ∙ fill (map (λ q. q.1) done) 8 (length done) p.1 (length-map done (λ q. q.1)) h.1
+    ∙ ap₂ (λ r k. r ++ replicate (8 - k) no_pair) (sym (map-append (λ q. q.1) done (p ∷ []))) (sym (length-append done (p ∷ [])))
+
+-- at the end they are the lowest
+pub placed_all : (e : Entry) (n size : ℕ) (vs : List (Option Vote)) (done : List (ℕ × Pair)) (each : List Pair)
+    → length vs ≤ 16 → map (λ p. (p.0, p.1)) done ≡ gathered e n size vs → each ≡ placed done → record { count = size; each = each } ≡ lowest_of size (backers e 0 (take n vs))
+placed_all e n size vs done each h all is =
     let bs : List (ℕ × ℕ) = backers e 0 (take n vs) in
-    let old : List (ℕ × ℕ) = backers e 0 (take q vs) in
-    let rest : List (ℕ × ℕ) = backers e (0 + length (take q (take n vs))) (drop q (take n vs)) in
-    let front : bs ≡ old ++ rest = backers_front e q (take n vs) ∙ ap (λ l. backers e 0 l ++ rest) (take-take q n vs low) in
-    let kept : old ≡ take filled bs = sym (ap (take filled) front ∙ take_at old rest filled (sym g.count)) in
-    let whole : filled ≡ min (length bs) (min size 8) =
-    elim end [
-      | inl full ↦ full ∙ omega (arith, ap length front ∙ length-append old rest, g.count)
-      | inr past ↦ omega (arith, g.count, ap length (all_below past))
-    ] in
-    let cut : take 8 (take size bs) ≡ old =
-    take_both 8 size bs ∙ take_least (min size 8) bs ∙ ap (λ k. take k bs) (sym whole) ∙ sym kept in
-    let all : each ≡ map pair_at (take 8 (take size bs)) ++ replicate (8 - length (map pair_at (take 8 (take size bs)))) no_pair =
-    g.pairs ∙ ap₂ (λ r k. map pair_at r ++ replicate (8 - k) no_pair) (sym cut) (g.count ∙ sym (length-map _ pair_at ∙ ap length cut)) in
-    λ i. record { count = size; each = all i }
-  where
-    all_below : (length vs ≤ q) ⊎ (n ≤ q) → backers e 0 (take n vs) ≡ backers e 0 (take q vs)
-    all_below (inl h) = ap (backers e 0) (take_all n vs (omega arith) ∙ sym (take_all q vs h))
-    all_below (inr h) = let k : n ≡ q = omega arith in ap (λ j. backers e 0 (take j vs)) k
-
--- the pairs of at most eight are those stations
-pair_plain : (ps : List (ℕ × ℕ)) → map plain (map pair_at ps) ≡ ps
-pair_plain [] = refl
-pair_plain (p ∷ ps) = ap (λ r. p ∷ r) (pair_plain ps)
-
-pub lowest_lists : (size : ℕ) (bs : List (ℕ × ℕ)) → size ≤ 8 → size ≤ length bs → map plain (listed (lowest_of size bs)) ≡ take size bs
-lowest_lists size bs few enough =
-    let xs : List (ℕ × ℕ) = take size bs in
-    let long : length xs ≡ size = length-take-le size bs enough in
-    let all : take 8 xs ≡ xs = take_all 8 xs (omega arith) in
-    let least : min size 8 ≡ size = omega arith in
-    let size_is : length (map pair_at (take 8 xs)) ≡ min size 8 = length-map (take 8 xs) pair_at ∙ ap length all ∙ long ∙ sym least in
-    ap (map plain) (take_at (map pair_at (take 8 xs)) (replicate (8 - length (map pair_at (take 8 xs))) no_pair) (min size 8) size_is)
-    ∙ pair_plain (take 8 xs) ∙ all
+    let pairs : map (λ p. p.1) done ≡ map pair_at (take 8 (take size bs)) =
+    ap (map (λ p. p.1)) (sym (map-id done) ∙ all) ∙ seconds 0 8 _ ∙ ap (λ xs. take 8 (take size xs)) (pairs_backed e 0 16 n vs h)
+    ∙ ap (take 8) (take-map pair_at size bs) ∙ take-map pair_at 8 (take size bs) in
+    let whole : each ≡ map pair_at (take 8 (take size bs)) ++ replicate (8 - length (map pair_at (take 8 (take size bs)))) no_pair =
+    is ∙ ap₂ (λ r k. r ++ replicate (8 - k) no_pair) pairs (sym (length-map done (λ p. p.1)) ∙ ap length pairs) in
+    λ i. record { count = size; each = whole i }

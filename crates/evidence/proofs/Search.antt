@@ -1,15 +1,16 @@
 -- Searches, one pair and one slot at a time.
-use Rattle.std.proofs.Common.{◌≡◌, ℕ, ◌+◌, ◌*◌, ◌<◌, ◌≤◌, min, Bool, true, false, not, eqb, leb, List, ◌∷◌, map, length, get_or, take, drop, Some, None, Decides, Option, sym, refl, ap, ◌∙◌, ap₂, arith, rules}
+use Rattle.std.proofs.Common.{◌≡◌, ◌||◌, [], ℕ, ◌+◌, ◌*◌, ◌<◌, Bool, true, false, not, eqb, leb, List, ◌∷◌, map, cond, nat_lt, length, get_or, take, drop, Some, None, Decides, Option, sym, refl, ap, ◌∙◌, ap₂, arith, rules, tests, suc, add-zero}
+use Rattle.std.specs.Option.{option_map}
+use Rattle.std.specs.List.{list_any, position, position_or_len}
 use Rattle.std.proofs.lemmas.Slice.Eq.{compares_Decides}
-use Rattle.std.proofs.lemmas.List.{at_drop_more, at_drop_all, length-take}
-use Rattle.std.proofs.lemmas.Bool.Decides.{same_from_decides, Decides-like}
+use Rattle.std.proofs.lemmas.List.{at_drop_more}
+use Rattle.std.proofs.lemmas.Bool.Decides.{same_from_decides, Decides-like, nat_tests}
 use Rattle.frames.specs.declared.frame.Pair.{Pair}
-use Rattle.frames.specs.declared.frame.Pairs.{Pairs}
 use Rattle.frames.specs.declared.frame.Frame.{Frame}
 use Rattle.frames.specs.declared.slot.Slot.{Slot}
 use Rattle.frames.specs.Frames.{◌and◌, ◌or◌, first_pair}
 use Rattle.frames.specs.Slots.{framed, same_bytes, issued}
-use Rattle.frames.specs.Typed.{plain, listed, stated, pair_stated}
+use Rattle.frames.specs.Typed.{plain, stated, pair_stated}
 use Rattle.frames.proofs.Basics.{never, and_true}
 use Rattle.evidence.specs.Forgery.{of_step, step_begins, bound, unissued, unforged, forged_sender_in}
 
@@ -20,6 +21,30 @@ first_good good place p ps h = rw (h, first_pair) refl
 
 first_bad : (good : ℕ × ℕ → Bool) (place : ℕ) (p : ℕ × ℕ) (ps : List (ℕ × ℕ)) → good p ≡ false → first_pair good place (p ∷ ps) ≡ Some place
 first_bad good place p ps h = rw (h, first_pair) refl
+
+lt_more : (m n : ℕ) → nat_lt (1 + m) (suc n) ≡ nat_lt m n
+lt_more m n = grind (arith, nat_tests)
+
+later : (b : Bool) (place k : ℕ) {r : Option ℕ} → option_map (λ n. place + 9 + 9 * n) (cond b (Some k) None) ≡ r → option_map (λ n. place + 9 * n) (cond b (Some (1 + k)) None) ≡ r
+later true place k e = let n : place + 9 * (1 + k) ≡ place + 9 + 9 * k = omega arith in ap Some n ∙ e
+later false place k e = e
+
+-- the place of the first bad pair, by its number
+pub pair_at_position : (good : ℕ × ℕ → Bool) (place : ℕ) (ps : List Pair)
+    → option_map (λ k. place + 9 * k) (position (λ p. not (good (plain p))) ps) ≡ first_pair good place (map plain ps)
+pair_at_position good place [] = refl
+pair_at_position good place (p ∷ ps) = go (good (plain p)) refl (pair_at_position good (place + 9) ps)
+  where
+    goal : Type 0
+    goal = option_map (λ k. place + 9 * k) (position (λ p. not (good (plain p))) (p ∷ ps)) ≡ first_pair good place (map plain (p ∷ ps))
+
+    go : (b : Bool) → good (plain p) ≡ b → option_map (λ k. place + 9 + 9 * k) (position (λ p. not (good (plain p))) ps) ≡ first_pair good (place + 9) (map plain ps) → goal
+    go true h ih =
+        let before : ℕ = position_or_len (λ q. not (good (plain q))) ps in
+        rw h (ap (λ b. option_map (λ k. place + 9 * k) (cond b (Some (1 + before)) None)) (lt_more before (length ps)) ∙ later (nat_lt before (length ps)) place before ih)
+    go false h ih =
+        let some : nat_lt 0 (suc (length ps)) ≡ true = search (rules, tests) in
+        rw h (ap (λ b. option_map (λ k. place + 9 * k) (cond b (Some 0) None)) some ∙ ap Some (add-zero place))
 
 -- what the pairs from k on give
 abbrev pub from : (ℕ × ℕ → Bool) → ℕ → List Pair → Option ℕ
@@ -38,26 +63,16 @@ module _ (good : ℕ × ℕ → Bool) (pairs : List Pair) (k : ℕ) (d : Pair) (
       sofar ∙ at_drop_more (λ l. first_pair good (32 + 9 * k) (map plain l)) pairs k d h
       ∙ first_bad good (32 + 9 * k) (plain (get_or pairs k d)) (map plain (drop (k + 1) pairs)) g
 
-pub pair_none : (good : ℕ × ℕ → Bool) (pairs : List Pair) (k : ℕ) (r : Option ℕ) → r ≡ from good k pairs → length pairs ≤ k → r ≡ None
-pair_none good pairs k r sofar h = sofar ∙ at_drop_all (λ l. first_pair good (32 + 9 * k) (map plain l)) pairs k h
-
 -- Slots
 
-or_here : (a b : Bool) → a ≡ true → (a or b) ≡ true
-or_here a b h = rw h refl
-
-or_later : (a b : Bool) → a ≡ false → (a or b) ≡ b
-or_later a b h = rw h refl
-
-module _ (pool : List Slot) (s : List ℕ) (k : ℕ) (d : Slot) (sofar : issued s pool ≡ issued s (drop k pool)) where
-  pub slot_here : k < length pool → step_begins s (get_or pool k d) ≡ true → issued s pool ≡ true
-  slot_here h t = sofar ∙ at_drop_more (issued s) pool k d h ∙ or_here (step_begins s (get_or pool k d)) (issued s (drop (k + 1) pool)) t
-
-  pub slot_next : k < length pool → step_begins s (get_or pool k d) ≡ false → issued s pool ≡ issued s (drop (k + 1) pool)
-  slot_next h t = sofar ∙ at_drop_more (issued s) pool k d h ∙ or_later (step_begins s (get_or pool k d)) (issued s (drop (k + 1) pool)) t
-
-pub slot_none : (pool : List Slot) (s : List ℕ) (k : ℕ) → issued s pool ≡ issued s (drop k pool) → length pool ≤ k → issued s pool ≡ false
-slot_none pool s k sofar h = sofar ∙ at_drop_all (issued s) pool k h
+-- some slot has it
+pub issued_is : (s : List ℕ) (pool : List Slot) → issued s pool ≡ list_any (step_begins s) pool
+issued_is s [] = refl
+issued_is s (x ∷ xs) = go (step_begins s x) (issued_is s xs)
+  where
+    go : (b : Bool) {l r : Bool} → l ≡ r → (b or l) ≡ (b || r)
+    go true e = refl
+    go false e = e
 
 -- a frame that begins with 24 bytes
 pub begins_is : (x : Slot) (s frame : List ℕ) (r : Bool) → true ≡ of_step x → frame ≡ framed x → length s ≡ 24 → Decides r (s ≡ take (length s) frame) → r ≡ step_begins s x
@@ -68,14 +83,6 @@ begins_is x s frame r step is size decides =
     (Decides-like r (λ e. sym (e ∙ cut)) (λ e. sym (cut ∙ e)) decides)
     (compares_Decides same_bytes (search rules) (take 24 (framed x)) s)
     ∙ sym (ap₂ (λ a b. a and b and same_bytes (take 24 (framed x)) s) p.0 p.1)
-
-pub begins_not : (x : Slot) (s : List ℕ) → false ≡ of_step x → false ≡ step_begins s x
-begins_not x s step = go (eqb x.by 0) (leb 1 x.len) step
-  where
-    go : (a b : Bool) → false ≡ (a and b) → false ≡ (a and b and same_bytes (take 24 (framed x)) s)
-    go true true e = never e
-    go true false e = refl
-    go false b e = refl
 
 -- Statements under a tag
 
@@ -97,9 +104,6 @@ module _ (faulty : ℕ → Bool) (tag : ℕ → List ℕ → ℕ) (f : Frame) (p
   abbrev test : List ℕ → Bool
   test l = not (unissued faulty tag p.0 l p.1 pool)
 
-  pub pair_unbound : false ≡ bound faulty tag p.0 s p.1 → unforged faulty tag f pool p ≡ true
-  pair_unbound e = ap test (sym is) ∙ ap not (unbound faulty tag p.0 s p.1 pool e)
-
   pub pair_known : true ≡ bound faulty tag p.0 s p.1 → issued s pool ≡ true → unforged faulty tag f pool p ≡ true
   pair_known e i = ap test (sym is) ∙ ap not (bound_by faulty tag p.0 s p.1 pool e ∙ ap not i)
 
@@ -116,7 +120,3 @@ module _ (faulty : ℕ → Bool) (tag : ℕ → List ℕ → ℕ) (f : Frame) (p
 
   pub sender_unbound : false ≡ bound faulty tag f.sender s f.tag → false ≡ forged_sender_in faulty tag f pool
   sender_unbound e = sym (sender_is ∙ unbound faulty tag f.sender s f.tag pool e)
-
--- at most eight pairs are there
-pub few_pairs : (ps : Pairs) (l : List Pair) → l ≡ listed ps → length l ≤ 8
-few_pairs ps l e = omega (arith, ap length e, length-take (min ps.count 8) ps.each)

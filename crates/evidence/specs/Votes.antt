@@ -1,6 +1,7 @@
 -- Votes: how many stations back a subject, and the pairs that show enough of them.
 use Rattle.std.specs.Prelude.{ℕ, Bool, false, cond, List, take, Some, None, sum_by, Option, nat_eq, nat_le, slice_index_or}
 use Rattle.base.specs.declared.book.Entry.{Entry}
+use Rattle.frames.specs.declared.frame.Pair.{Pair}
 use Rattle.frames.specs.declared.frame.Pairs.{Pairs}
 use Rattle.frames.specs.Frames.{◌and◌}
 use Rattle.frames.specs.Typed.{holding}
@@ -27,6 +28,11 @@ equal_entries a b = nat_eq a.grower b.grower and nat_eq a.amount b.amount and na
 -- a vote on entries is for the entry that it holds
 abbrev pub backs_entry : Vote → Entry → Bool
 backs_entry v e = equal_entries v.entry e
+
+-- a station's pair, if its vote is for the entry
+abbrev pub pair_backed : Entry → ℕ → Option Vote → Option Pair
+pair_backed e q None = None
+pair_backed e q (Some v) = cond (backs_entry v e) (Some (record { station = q; tag = v.tag })) None
 
 -- the lowest `size` of the stations that back an entry, with their tags; eight of them where they are more
 abbrev pub lowest_of : ℕ → List (ℕ × ℕ) → Pairs

@@ -1,5 +1,5 @@
 // Statements that bear a correct station's right tag though no step issued them.
-ghost use Rattle.std.specs.Prelude.{◌≡◌, is_some};
+ghost use Rattle.std.specs.Prelude.{◌≡◌};
 ghost use Rattle.frames.specs.Slots.{issued};
 ghost use Rattle.evidence.specs.Forgery.{faulty_in, of_step, step_begins, bound, forged_sender_in, forged_in, forged_pair_in};
 
@@ -9,7 +9,7 @@ use frames::slot::{Origin, Slot};
 use policies::table::Locked;
 use seals::seal::Check;
 
-// Whether a slot holds a step's frame.
+// Whether a slot holds a step's frame. The mark is a plain number: slots are lent and may hold anything.
 fn is_of_step(slot: &Slot) -> bool
     ensures { result ≡ of_step slot.now }
 {
@@ -23,66 +23,59 @@ fn begins(slot: &Slot, statement: &[u8; 24]) -> bool
     is_of_step(slot) && slot.frame().starts_with(statement)
 }
 
-// The first slot that holds a step's frame that begins with a statement.
-fn find_issued<'a>(statement: &[u8; 24], pool: &'a [Slot]) -> Option<&'a Slot>
-    ensures { is_some result ≡ issued statement.now pool.now }
-{
-    for slot in pool {
-        if begins(slot, statement) {
-            return Some(slot);
-        }
-    }
-    None
-}
-
 // Whether some step's frame in the pool begins with a statement.
 pub fn is_issued(statement: &[u8; 24], pool: &[Slot]) -> bool
     ensures { result ≡ issued statement.now pool.now }
 {
-    find_issued(statement, pool).is_some()
+    pool.iter().any(|slot| begins(slot, statement))
 }
 
-// Whether a correct station is bound to a statement by its right tag.
-fn is_bound<S: Check>(
-    table: &Locked,
-    seal: &S,
-    station: u8,
-    statement: &[u8; 24],
-    shown: u64,
-) -> bool
-    ensures { result ≡ bound (faulty_in table.now) (S.Check.tag seal.now) station statement.now shown }
-{
-    !table.is_faulty(station as u32) && seal.check(station, statement, shown)
+// What tells a forged statement: who is faulty, the right tags, and what steps issued.
+#[derive(Drop)]
+struct Grounds<'a, S> {
+    table: &'a Locked,
+    seal: &'a S,
+    pool: &'a [Slot],
 }
 
-// The place of the first pair that binds a correct station to a statement that no step issued.
-fn forged_pair<S: Check>(table: &Locked, seal: &S, f: &Frame, pool: &[Slot]) -> Option<usize>
-    ensures { result ≡ forged_pair_in (faulty_in table.now) (S.Check.tag seal.now) f.now pool.now }
-{
-    let pairs = f.pairs.as_slice();
-    'search: {
-        'pairs: for (k, pair) in pairs.iter().enumerate() {
-            let statement = f.pair_statement(pair.station);
-            if !is_bound(table, seal, pair.station, &statement, pair.tag) {
-                continue;
-            }
-            for slot in pool {
-                if begins(slot, &statement) {
-                    continue 'pairs;
-                }
-            }
-            break 'search Some(place_of(k as u8));
-        }
-        None
+impl<S: Check> Grounds<'_, S> {
+    // Whether a correct station is bound to a statement by its right tag.
+    fn is_bound(&self, station: u8, statement: &[u8; 24], shown: u64) -> bool
+        ensures { result ≡ bound (faulty_in self.now.table.now) (S.Check.tag self.now.seal.now) station statement.now shown }
+    {
+        !self.table.is_faulty(u32::from(station)) && self.seal.check(station, statement, shown)
     }
-}
 
-// Whether the frame's tag binds its sender to a statement that no step issued.
-fn is_sender_forged<S: Check>(table: &Locked, seal: &S, f: &Frame, pool: &[Slot]) -> bool
-    ensures { result ≡ forged_sender_in (faulty_in table.now) (S.Check.tag seal.now) f.now pool.now }
-{
-    let statement = f.statement();
-    is_bound(table, seal, f.sender, &statement, f.tag) && !is_issued(&statement, pool)
+    // The place of the first pair that binds a correct station to a statement that no step issued.
+    fn forged_pair(&self, f: &Frame) -> Option<usize>
+        ensures { result ≡ forged_pair_in (faulty_in self.now.table.now) (S.Check.tag self.now.seal.now) f.now self.now.pool.now }
+    {
+        let pairs = f.pairs.as_slice();
+        // A rule of the project: a search within a search is two loops, left by a label with the pair's place.
+        'search: {
+            'pairs: for (k, pair) in pairs.iter().enumerate() {
+                let statement = f.pair_statement(pair.station);
+                if !self.is_bound(pair.station, &statement, pair.tag) {
+                    continue;
+                }
+                for slot in self.pool {
+                    if begins(slot, &statement) {
+                        continue 'pairs;
+                    }
+                }
+                break 'search Some(place_of(k));
+            }
+            None
+        }
+    }
+
+    // Whether the frame's tag binds its sender to a statement that no step issued.
+    fn is_sender_forged(&self, f: &Frame) -> bool
+        ensures { result ≡ forged_sender_in (faulty_in self.now.table.now) (S.Check.tag self.now.seal.now) f.now self.now.pool.now }
+    {
+        let statement = f.statement();
+        self.is_bound(f.sender, &statement, f.tag) && !is_issued(&statement, self.pool)
+    }
 }
 
 // The place of the first statement that a correct station is bound to though no step issued it: the sender's
@@ -90,8 +83,9 @@ fn is_sender_forged<S: Check>(table: &Locked, seal: &S, f: &Frame, pool: &[Slot]
 pub fn forged<S: Check>(table: &Locked, seal: &S, f: &Frame, pool: &[Slot]) -> Option<usize>
     ensures { result ≡ forged_in (faulty_in table.now) (S.Check.tag seal.now) f.now pool.now }
 {
-    if is_sender_forged(table, seal, f, pool) {
+    let grounds = Grounds { table, seal, pool };
+    if grounds.is_sender_forged(f) {
         return Some(24);
     }
-    forged_pair(table, seal, f, pool)
+    grounds.forged_pair(f)
 }

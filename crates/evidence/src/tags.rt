@@ -1,20 +1,21 @@
 // The tags and the seats behind a frame.
-ghost use Rattle.std.specs.Prelude.{◌≡◌, ℕ, ◌+◌, ◌-◌, ◌*◌, Bool, map, ◌==◌};
+ghost use Rattle.std.specs.Prelude.{◌≡◌, ℕ, ◌+◌, ◌-◌, ◌*◌, ◌≤◌, Bool, map, ◌==◌};
 ghost use Rattle.frames.specs.Frames.{first_pair};
 ghost use Rattle.frames.specs.Typed.{plain, listed};
 ghost use Rattle.protocol.specs.Ready.{pairs_in, shown_by};
 ghost use Rattle.evidence.specs.Issue.{right_tag};
-ghost use Rattle.evidence.specs.Tags.{sender_tagged, pair_tagged, pair_left, rightly_by, pairs_shown};
+ghost use Rattle.evidence.specs.Tags.{Tests, sender_tagged, pair_tagged, pair_left, rightly_by, pairs_shown};
 
 use frames::frame::{Frame, Pair, Pairs};
 use policies::policy::Policy;
 use seals::seal::Check;
 
 // The place in a frame of its k-th pair.
-pub(super) fn place_of(k: u8) -> usize
+pub(super) fn place_of(k: usize) -> usize
+    requires { k ≤ 8 }
     ensures { result ≡ 32 + 9 * k }
 {
-    32 + 9 * k as usize
+    32 + 9 * k
 }
 
 // Whether a tag is the sender's on the frame's statement.
@@ -24,104 +25,68 @@ fn is_senders<S: Check>(seal: &S, f: &Frame, shown: u64) -> bool
     seal.check(f.sender, &f.statement(), shown)
 }
 
-// Whether the frame's tag is right.
+// Whether the frame's tag is right. Here and below the hall lends seal, policy and frame one by one; a struct of them
+// would be built for one call only.
 pub fn sender_right<S: Check>(seal: &S, f: &Frame) -> bool
     ensures { result ≡ sender_tagged (S.Check.tag seal.now) f.now }
 {
     is_senders(seal, f, f.tag)
 }
 
-// What each pair of a frame is held to.
-trait PairTest {
-    ghost holds: { Self → ℕ × ℕ → Bool };
-
-    fn passes(&self, pair: &Pair) -> bool
-        ensures { result ≡ holds self.now (plain pair.now) };
-}
-
 // The place in a frame of the first of its pairs that fails a test.
-fn first_failing<T: PairTest>(test: &T, pairs: &Pairs) -> Option<usize>
-    ensures { result ≡ first_pair (T.PairTest.holds test.now) 32 (map plain (listed pairs.now)) }
+fn first_failing<F: Fn(&Pair) -> bool>(passes: F, pairs: &Pairs) -> Option<usize>
+    requires { F.IsAlwaysCallable passes }
+    ensures { (good : ℕ × ℕ → Bool) → Tests F.Fn passes good → result ≡ first_pair good 32 (map plain (listed pairs.now)) }
 {
-    let some = pairs.as_slice();
-    for (k, pair) in some.iter().enumerate() {
-        if !test.passes(pair) {
-            return Some(place_of(k as u8));
-        }
-    }
-    None
+    pairs
+        .as_slice()
+        .iter()
+        .position(|pair| !passes(pair))
+        .map(place_of)
 }
 
-// A pair's tag is right.
-#[derive(Drop)]
-struct RightTag<'a, S> {
-    seal: &'a S,
-    frame: &'a Frame,
-}
-
-impl<S: Check> PairTest for RightTag<'_, S> {
-    ghost holds = { λ t p. pair_tagged (S.Check.tag t.seal.now) t.frame.now p };
-
-    fn passes(&self, pair: &Pair) -> bool {
-        let statement = self.frame.pair_statement(pair.station);
-        self.seal.check(pair.station, &statement, pair.tag)
-    }
+// Whether a pair's tag is right.
+fn is_pair_right<S: Check>(seal: &S, f: &Frame, pair: &Pair) -> bool
+    ensures { result ≡ pair_tagged (S.Check.tag seal.now) f.now (plain pair.now) }
+{
+    seal.check(pair.station, &f.pair_statement(pair.station), pair.tag)
 }
 
 // The place of the first pair whose tag is wrong.
-pub fn wrong_pair<'a, S: Check>(seal: &'a S, f: &'a Frame) -> Option<usize>
+pub fn wrong_pair<S: Check>(seal: &S, f: &Frame) -> Option<usize>
     ensures { result ≡ first_pair (pair_tagged (S.Check.tag seal.now) f.now) 32 (pairs_in f.now) }
 {
-    first_failing(&RightTag { seal, frame: f }, &f.pairs)
+    first_failing(|pair| is_pair_right(seal, f, pair), &f.pairs)
 }
 
 // The number of the committee that a reselect leaves.
 fn left_by(f: &Frame) -> u32
     ensures { result ≡ f.now.number - 1 }
 {
-    (f.number as u32).saturating_sub(1)
+    u32::from(f.number).saturating_sub(1)
 }
 
 // Whether a reselect's sender sits in the committee left and brings no pair, or only in the new one and brings one.
 pub fn rightly_sent<P: Policy>(policy: &P, f: &Frame) -> bool
     ensures { result ≡ rightly_by (P.Policy.seats policy.now) f.now }
 {
-    let sender = f.sender as u32;
+    let sender = u32::from(f.sender);
     if policy.seated(left_by(f), sender) {
         f.pairs.count == 0
     } else {
-        policy.seated(f.number as u32, sender) && f.pairs.count == 1
-    }
-}
-
-// A pair has the right tag of a member of the committee left.
-#[derive(Drop)]
-struct Leaver<'a, S, P> {
-    tag: RightTag<'a, S>,
-    policy: &'a P,
-}
-
-impl<S: Check, P: Policy> PairTest for Leaver<'_, S, P> {
-    ghost holds = { λ t p. pair_left (S.Check.tag t.tag.seal.now) (P.Policy.seats t.policy.now) t.tag.frame.now p };
-
-    fn passes(&self, pair: &Pair) -> bool {
-        self.tag.passes(pair)
-            && self
-                .policy
-                .seated(left_by(self.tag.frame), pair.station as u32)
+        policy.seated(u32::from(f.number), sender) && f.pairs.count == 1
     }
 }
 
 // The place of the first pair whose tag is wrong or whose station does not sit in the committee left.
-pub fn wrong_leaver<'a, S: Check, P: Policy>(
-    seal: &'a S,
-    policy: &'a P,
-    f: &'a Frame,
-) -> Option<usize>
+pub fn wrong_leaver<S: Check, P: Policy>(seal: &S, policy: &P, f: &Frame) -> Option<usize>
     ensures { result ≡ first_pair (pair_left (S.Check.tag seal.now) (P.Policy.seats policy.now) f.now) 32 (pairs_in f.now) }
 {
-    let tag = RightTag { seal, frame: f };
-    first_failing(&Leaver { tag, policy }, &f.pairs)
+    let left = left_by(f);
+    first_failing(
+        |pair| is_pair_right(seal, f, pair) && policy.seated(left, u32::from(pair.station)),
+        &f.pairs,
+    )
 }
 
 // What a member of the new committee alone shows of the frame that it took: its sender with the tag, or its own pair.
@@ -132,10 +97,13 @@ pub fn shown(f: &Frame) -> Pairs
     if f.pairs.count != 0 {
         return f.pairs;
     }
-    let mut each = [Pair { station: 0, tag: 0 }; 8];
-    each[0] = Pair {
+    let mut own = Pairs {
+        count: 1,
+        ..Pairs::default()
+    };
+    own.each[0] = Pair {
         station: f.sender,
         tag: f.tag,
     };
-    Pairs { count: 1, each }
+    own
 }

@@ -1,27 +1,20 @@
 // Votes, and how many stations back one entry.
 ghost use Rattle.std.specs.Prelude.{◌≡◌, ℕ, ◌≤◌, Bool, true, take, nat_le};
 ghost use Rattle.protocol.specs.Steps.{backers};
-ghost use Rattle.evidence.specs.Votes.{equal_entries, weight_of, support_of, backs_entry, lowest_of, quorum_of, entry_held};
+ghost use Rattle.evidence.specs.Votes.{equal_entries, is_for, support_of, backs_entry, pair_backed, lowest_of, quorum_of, entry_held};
 
 use base::book::Entry;
 use frames::frame::{Pair, Pairs};
 use protocol::station::Vote;
 
-// An entry that says nothing.
-const NO_ENTRY: Entry = Entry {
-    grower: 0,
-    amount: 0,
-    carry: 0,
-    figure: 0,
-};
-
+// Whether two entries agree in all four numbers.
 pub fn same_entry(a: Entry, b: Entry) -> bool
     ensures { result ≡ equal_entries a b }
 {
-    a.grower == b.grower && a.amount == b.amount && a.carry == b.carry && a.figure == b.figure
+    a == b
 }
 
-// A vote that some station gave, whatever it votes on.
+// A vote that some station gave, whatever it votes on: so one count serves every kind of vote, and is proved once.
 pub trait Ballot {
     type Subject;
 
@@ -42,59 +35,50 @@ impl Ballot for Vote {
     }
 }
 
-// What a station adds to the support of a subject: one if it votes for it.
-fn weight<V: Ballot>(held: &Option<V>, what: &V::Subject) -> u32
-    ensures { result ≡ weight_of V.Ballot.backs what.now held.now }
+// Whether a station votes for a subject.
+fn is_backer<V: Ballot>(held: &Option<V>, what: &V::Subject) -> bool
+    ensures { result ≡ is_for V.Ballot.backs what.now held.now }
 {
-    let Some(vote) = held else {
-        return 0;
-    };
-    if vote.is_for(what) { 1 } else { 0 }
+    held.as_ref().is_some_and(|vote| vote.is_for(what))
 }
 
-// How many of the first n stations vote for a subject; votes stand at their stations' numbers.
+// How many of the first n stations vote for a subject; votes stand at their stations' numbers. The sixteen are a
+// record's, lent as plain data, and n is a table's: a struct of both would be built for one call only.
 pub fn support<V: Ballot>(votes: &[Option<V>; 16], n: u32, what: &V::Subject) -> u32
     ensures is { result ≡ support_of V.Ballot.backs what.now (take n votes.now) }
     ensures few { result ≤ 16 }
 {
-    let mut stations = 0;
-    for (q, held) in votes.iter().enumerate() {
-        if q >= n as usize {
-            break;
-        }
-        stations += weight(held, what);
-    }
-    stations
+    votes
+        .iter()
+        .take(n as usize)
+        .filter(|held| is_backer(held, what))
+        .count() as u32
 }
 
-// Whether at least `size` of the first n stations vote for an entry.
-fn is_reached(votes: &[Option<Vote>; 16], n: u32, size: u32, entry: Entry) -> bool
-    ensures is { result ≡ nat_le size (support_of backs_entry entry (take n votes.now)) }
-    ensures few { result ≡ true → size ≤ 16 }
+// A station's pair, if its vote is for an entry.
+fn pair_of(station: u8, held: Option<Vote>, what: &Entry) -> Option<Pair>
+    ensures { result ≡ pair_backed what.now station held }
 {
-    size <= support(votes, n, &entry)
+    let vote = held.filter(|vote| vote.is_for(what))?;
+    Some(Pair {
+        station,
+        tag: vote.tag,
+    })
 }
 
 // The lowest `size` of the first n stations that vote for an entry, with their tags.
 fn lowest(votes: &[Option<Vote>; 16], n: u32, size: u8, what: Entry) -> Pairs
     ensures { result ≡ lowest_of size (backers what 0 (take n votes.now)) }
 {
-    let mut each = [Pair { station: 0, tag: 0 }; 8];
-    let mut filled = 0;
-    for (q, held) in votes.iter().enumerate() {
-        if q >= n as usize || filled == size.min(8) as usize {
-            break;
-        }
-        let Some(vote) = held else {
-            continue;
-        };
-        if vote.is_for(&what) {
-            each[filled] = Pair {
-                station: q as u8,
-                tag: vote.tag,
-            };
-            filled += 1;
-        }
+    // The numbers are bytes from the start, so that none has to be cut to one.
+    let backers = (0u8..16)
+        .zip(votes)
+        .take(n as usize)
+        .filter_map(|(station, held)| pair_of(station, *held, &what))
+        .take(usize::from(size));
+    let mut each = [Pair::default(); 8];
+    for (k, pair) in (0..8).zip(backers) {
+        each[k] = pair;
     }
     Pairs { count: size, each }
 }
@@ -104,21 +88,17 @@ fn lowest(votes: &[Option<Vote>; 16], n: u32, size: u8, what: Entry) -> Pairs
 pub fn quorum(votes: &[Option<Vote>; 16], n: u32, size: u32, entry: Entry) -> Option<Pairs>
     ensures { result ≡ quorum_of size entry (take n votes.now) }
 {
-    if !is_reached(votes, n, size, entry) {
-        return None;
-    }
-    Some(lowest(votes, n, size as u8, entry))
+    (size <= support(votes, n, &entry)).then(|| lowest(votes, n, size as u8, entry))
 }
 
-// The entry of station i's vote; zeros where there is no vote.
+// The entry of station i's vote; zeros where there is no vote, as in the protocol's definition of its own vote.
 pub fn own_entry(votes: &[Option<Vote>; 16], i: u32) -> Entry
     ensures { result ≡ entry_held i votes.now }
 {
-    let Some(held) = votes.get(i as usize) else {
-        return NO_ENTRY;
-    };
-    match held {
-        Some(vote) => vote.entry,
-        None => NO_ENTRY,
-    }
+    votes
+        .get(i as usize)
+        .copied()
+        .flatten()
+        .map(|vote| vote.entry)
+        .unwrap_or_default()
 }

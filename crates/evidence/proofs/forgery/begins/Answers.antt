@@ -1,6 +1,6 @@
-use Rattle.std.proofs.Common.{length, take, ◌∙◌, arith}
+use Rattle.std.proofs.Common.{length, take, arith}
 use Rattle.std.proofs.lemmas.Slice.Eq.{slice_eq-Decides}
-use Rattle.evidence.proofs.Search.{begins_is, begins_not}
+use Rattle.evidence.proofs.Search.{begins_is}
 use Rattle.evidence.proofs.forgery.begins.Goals as goal
 use Rattle.std.proofs.lemmas.Bool.Decides.{Decides-eqb}
 
@@ -10,6 +10,3 @@ returns-then-is_of_step c =
     let frame = c.frame.result.now in
     begins_is c.args.slot.now s frame c.starts_with.result c.if-is_of_step.ensures c.frame.ensures (omega arith)
     (slice_eq-Decides Decides-eqb s (take (length s) frame) c.starts_with.result c.starts_with.ensures.value)
-
-pub returns-else-is_of_step : goal.returns-else-is_of_step
-returns-else-is_of_step c = c.if-is_of_step.false ∙ begins_not c.args.slot.now c.args.statement.now c.if-is_of_step.ensures

@@ -1,6 +1,6 @@
-use Rattle.std.proofs.Common.{◌≤◌, min}
-use Rattle.evidence.proofs.Backers.{Gathered}
+use Rattle.std.proofs.Common.{◌≡◌}
+use Rattle.evidence.proofs.Backers.{placed}
 use Rattle.evidence.proofs.votes.lowest.Given as goal
 
-abbrev pub invariant-loop-q : goal.invariant-loop-q
-invariant-loop-q l = (l.q ≤ l.n) × (l.filled ≤ min l.size 8) × Gathered l.what l.votes l.q l.filled l.each
+abbrev pub invariant-loop-k : goal.invariant-loop-k
+invariant-loop-k l = (goal.iterator-loop-k).can_next l.k-iterator × (goal.iterator-loop-k).is_finite l.k-iterator × (l.each ≡ placed l.yielded)
