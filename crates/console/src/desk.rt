@@ -1,6 +1,6 @@
 // The state of a script, and what each command does to it.
 use super::floor::Floor;
-use super::reply::{Book, Fields, Reply, Seats};
+use super::reply::{Book, Reply, Seats};
 use super::trouble::{Mistake, Trouble};
 use super::words::{Words, hex_word, statement};
 use base::book::Batch;
@@ -239,7 +239,7 @@ impl Desk {
         let table = self.locked()?;
         let batches = self.batches.ok_or(Mistake::NoBatches)?;
         let frame = decode_line(table.stations(), table.faults(), batches, line)?;
-        Ok(Reply::Decoded(Fields(frame)))
+        Ok(Reply::Decoded(frame))
     }
 
     fn make_hall(&mut self, words: &mut Words) -> Result<Reply, Trouble> {

@@ -1,5 +1,5 @@
 // A hall with the buffers that are lent to it, and the calls on it.
-use super::reply::{Digits, Marks, Place, Reply};
+use super::reply::{Digits, Marks, Reply};
 use super::trouble::{Mistake, Trouble};
 use base::book::{Batch, Entry};
 use frames::slot::Slot;
@@ -102,6 +102,6 @@ impl Floor {
 
     pub(super) fn show(&self, f: u32) -> Result<Reply, Trouble> {
         let slot = self.pool.get(f as usize).ok_or(Mistake::NoSlot)?;
-        Ok(Reply::Shown(Place(*slot)))
+        Ok(Reply::Shown(*slot))
     }
 }

@@ -13,12 +13,12 @@ pub enum Reply {
     Tag(u64),
     // how many bytes a line stands for
     Bytes(u32),
-    Decoded(Fields),
+    Decoded(Frame),
     Marks(Marks),
     Booked(Entry),
     // a frame as a line
     Written(Digits),
-    Shown(Place),
+    Shown(Slot),
 }
 
 #[derive(Drop)]
@@ -28,10 +28,6 @@ pub struct Book(pub Vec<Entry>);
 #[derive(Drop)]
 pub struct Seats(pub Vec<u32>);
 
-// A frame by its fields.
-#[derive(Clone, Copy)]
-pub struct Fields(pub Frame);
-
 // What a call did: reselected, proposed, decided.
 #[derive(Clone, Copy)]
 pub struct Marks(pub (bool, bool, bool));
@@ -39,10 +35,6 @@ pub struct Marks(pub (bool, bool, bool));
 // A line: how long it is, and its digits.
 #[derive(Drop)]
 pub struct Digits(pub Vec<u8>);
-
-// A slot with all of its bytes.
-#[derive(Clone, Copy)]
-pub struct Place(pub Slot);
 
 impl fmt::Display for Reply {
     fn fmt<W: fmt::Write>(&self, f: &mut fmt::Formatter<W>) -> fmt::Result {
@@ -55,11 +47,11 @@ impl fmt::Display for Reply {
             Reply::Seats(seats) => write!(f, "ok{seats}"),
             Reply::Tag(tag) => write!(f, "ok {tag:016x}"),
             Reply::Bytes(count) => write!(f, "ok {count}"),
-            Reply::Decoded(fields) => write!(f, "ok {fields}"),
+            Reply::Decoded(frame) => write!(f, "ok {frame}"),
             Reply::Marks(marks) => write!(f, "ok{marks}"),
             Reply::Booked(entry) => write!(f, "ok {entry}"),
             Reply::Written(digits) => write!(f, "ok {digits}"),
-            Reply::Shown(place) => write!(f, "ok {place}"),
+            Reply::Shown(slot) => write!(f, "ok {slot}"),
         }
     }
 }
@@ -79,30 +71,6 @@ impl fmt::Display for Seats {
     fn fmt<W: fmt::Write>(&self, f: &mut fmt::Formatter<W>) -> fmt::Result {
         for i in &self.0 {
             write!(f, " {i}")?;
-        }
-        Ok(())
-    }
-}
-
-impl fmt::Display for Fields {
-    fn fmt<W: fmt::Write>(&self, f: &mut fmt::Formatter<W>) -> fmt::Result {
-        let Frame {
-            kind,
-            sender,
-            batch,
-            number,
-            entry,
-            tag,
-            pairs,
-        } = self.0;
-        let pairs = pairs.as_slice();
-        let count = pairs.len();
-        write!(f, "{kind} sender {sender} batch {batch} number {number} ")?;
-        write!(f, "pairs {count} entry {entry} tag {tag:016x}")?;
-        for pair in pairs {
-            let station = pair.station;
-            let tag = pair.tag;
-            write!(f, " pair {station} {tag:016x}")?;
         }
         Ok(())
     }
@@ -130,23 +98,6 @@ impl fmt::Display for Digits {
         write!(f, "{count} ")?;
         for digit in &self.0 {
             f.write_char(char::from(*digit))?;
-        }
-        Ok(())
-    }
-}
-
-impl fmt::Display for Place {
-    fn fmt<W: fmt::Write>(&self, f: &mut fmt::Formatter<W>) -> fmt::Result {
-        let Slot {
-            len,
-            bytes,
-            by,
-            taken,
-        } = self.0;
-        let taken = u8::from(taken);
-        write!(f, "{len} {by} {taken} ")?;
-        for byte in &bytes {
-            write!(f, "{byte:02x}")?;
         }
         Ok(())
     }
