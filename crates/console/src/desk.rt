@@ -63,7 +63,7 @@ impl Desk {
     // What a line is answered. A mistake and a refusal change nothing.
     pub fn answer(&mut self, line: &[u8]) -> Result<Reply, Trouble> {
         let mut words = Words::of(line);
-        // a table of functions would ask for one signature of all of them
+        // a match: a table of functions would ask for one signature of all, and be no plainer
         match words.word()? {
             b"table" => self.new_table(&words),
             b"add" => self.add(&mut words),
@@ -83,7 +83,7 @@ impl Desk {
         }
     }
 
-    // A call on the hall that stands: its words are judged first.
+    // A call on the hall that stands: its words are judged first. A match again, as above.
     fn call(&mut self, name: &[u8], words: &mut Words) -> Result<Reply, Trouble> {
         match name {
             b"buffers" => {
@@ -307,7 +307,7 @@ fn sheet(heap: Global, words: &mut Words) -> Result<AnySeal, Trouble> {
     Ok(AnySeal::BySheet(Sheet { words: sheet }))
 }
 
-// A seal of the same keys or words.
+// A seal of the same keys or words, by hand since a seal has no `Clone`.
 fn copy(heap: Global, seal: &AnySeal) -> Result<AnySeal, AllocError> {
     Ok(match seal {
         AnySeal::ByKeys(keyed) => AnySeal::ByKeys(*keyed),

@@ -63,6 +63,7 @@ fn main(rt: HostRuntime) -> io::Result<()> {
     let mut line = Vec::new(heap);
     let mut input = BufReader::with_capacity(heap, PIECE, rt.stdin())?;
     let mut out = BufWriter::new(heap, rt.stdout())?;
+    // counted, since no measure tells that an input ends; `split` would keep a line of any length
     for _ in 0..u64::MAX {
         let Some(line) = next_line(&mut input, &mut line)? else {
             break;

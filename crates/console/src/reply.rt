@@ -1,4 +1,7 @@
 // What a command is answered.
+ghost use Rattle.std.specs.Prelude.{Some};
+ghost use Rattle.console.specs.Shown.{seats_text, marks_text, digits_text, reply_text};
+
 use base::book::Entry;
 use frames::frame::Frame;
 use frames::slot::Slot;
@@ -37,6 +40,8 @@ pub struct Marks(pub (bool, bool, bool));
 pub struct Digits(pub Vec<u8>);
 
 impl fmt::Display for Reply {
+    ghost output = { λ r. Some (reply_text r) };
+
     fn fmt<W: fmt::Write>(&self, f: &mut fmt::Formatter<W>) -> fmt::Result {
         match self {
             Reply::Done => f.write_str("ok"),
@@ -68,6 +73,8 @@ impl fmt::Display for Book {
 }
 
 impl fmt::Display for Seats {
+    ghost output = { λ s. Some (seats_text s) };
+
     fn fmt<W: fmt::Write>(&self, f: &mut fmt::Formatter<W>) -> fmt::Result {
         for i in &self.0 {
             write!(f, " {i}")?;
@@ -77,22 +84,20 @@ impl fmt::Display for Seats {
 }
 
 impl fmt::Display for Marks {
+    ghost output = { λ m. Some (marks_text m) };
+
     fn fmt<W: fmt::Write>(&self, f: &mut fmt::Formatter<W>) -> fmt::Result {
         let (reselected, proposed, decided) = self.0;
-        if reselected {
-            f.write_str(" reselected")?;
-        }
-        if proposed {
-            f.write_str(" proposed")?;
-        }
-        if decided {
-            f.write_str(" decided")?;
-        }
-        Ok(())
+        let reselected = if reselected { " reselected" } else { "" };
+        let proposed = if proposed { " proposed" } else { "" };
+        let decided = if decided { " decided" } else { "" };
+        write!(f, "{reselected}{proposed}{decided}")
     }
 }
 
 impl fmt::Display for Digits {
+    ghost output = { λ d. Some (digits_text d) };
+
     fn fmt<W: fmt::Write>(&self, f: &mut fmt::Formatter<W>) -> fmt::Result {
         let count = self.0.len();
         write!(f, "{count} ")?;

@@ -1,4 +1,7 @@
 // Why a command was not done.
+ghost use Rattle.std.specs.Prelude.{Some};
+ghost use Rattle.console.specs.Shown.{mistake_text, trouble_text};
+
 use base::fault::Fault;
 use std::alloc::{AllocError, AllocFailed};
 use std::error::Error;
@@ -30,6 +33,8 @@ pub enum Trouble {
 }
 
 impl fmt::Display for Mistake {
+    ghost output = { λ m. Some (mistake_text m) };
+
     fn fmt<W: fmt::Write>(&self, f: &mut fmt::Formatter<W>) -> fmt::Result {
         f.write_str(match self {
             Mistake::LineTooLong => "line too long",
@@ -49,6 +54,8 @@ impl fmt::Display for Mistake {
 }
 
 impl fmt::Display for Trouble {
+    ghost output = { trouble_text };
+
     fn fmt<W: fmt::Write>(&self, f: &mut fmt::Formatter<W>) -> fmt::Result {
         match self {
             Trouble::Mistake(mistake) => write!(f, "error ({mistake})"),
