@@ -4,3 +4,4 @@
 pub mod book;
 pub mod fault;
 pub mod refusal;
+mod show;

@@ -1,41 +1,43 @@
--- A number is read digit by digit.
-use Rattle.std.proofs.Common.{◌≡◌, ℕ, ◌+◌, ◌-◌, ◌*◌, ◌<◌, ◌≤◌, Bool, true, false, cond, ◌&&◌, leb, List, [], ◌∷◌, length, get_or, drop, Some, None, Option, refl, ap, ◌∙◌, arith}
-use Rattle.std.proofs.lemmas.List.{at_drop_more, at_drop_all}
-use Rattle.std.proofs.lemmas.Bool.{le-leb, lt-leb}
-use Rattle.console.specs.Numbers.{all_digits, value_behind, read_behind}
+-- A number of a script is what the library reads of digits without a sign.
+use Rattle.std.proofs.Common.{rules, ◌≡◌, ◌≢◌, ℕ, ◌^◌, ◌<◌, ◌≤◌, Bool, true, false, cond, ◌&&◌, leb, List, length, get_or, Some, None, Ok, Err, Option, Result, refl, ap, ◌∙◌, arith}
+use Rattle.std.proofs.lemmas.Bool.{le-leb, leb-true}
+use Rattle.std.proofs.lemmas.Fmt.{IsAscii-from_digits}
+use Rattle.std.proofs.lemmas.Str.{IsUtf8-from_ascii}
+use Rattle.std.proofs.lemmas.Str.Parse.{IsNumeralModel, numerals_by_fold, parse_plain}
+use Rattle.std.specs.Result.{result_ok, OkIff}
+use Rattle.std.specs.Str.{IsUtf8}
+use Rattle.std.specs.Str.Parse.{ParsesUnsigned}
+use Rattle.console.specs.Numbers.{all_digits, value_behind, number_of}
 
--- digits behind a number make it no smaller
-grows : (v : ℕ) (w : List ℕ) → v ≤ value_behind v w
-grows v [] = omega arith
-grows v (x ∷ xs) = omega (arith, grows (v * 10 + (x - 48)) xs)
+abbrev Digits : List ℕ → Type 0
+Digits w = all_digits w ≡ true
 
--- what a first character is worth, whether it is a digit or not
-abbrev split : Bool → ℕ → List ℕ → Option ℕ
-split b v w = cond ((b && all_digits w) && leb (value_behind v w) 4294967295) (Some (value_behind v w)) None
+own : IsNumeralModel Digits (value_behind 0)
+own = numerals_by_fold Digits (search rules) value_behind (search rules)
 
-too_much : (b c : Bool) (o : Option ℕ) → c ≡ false → cond (b && c) o None ≡ None
-too_much true c o e = ap (λ x. cond x o None) e
-too_much false c o e = refl
+-- no number where one of the tests fails
+refused : (a b c : Bool) (o : Option ℕ) → (b ≡ true → a ≡ true → c ≡ true → ⊥) → cond a (cond (b && c) o None) None ≡ None
+refused true true true o f = absurd (f refl refl refl)
+refused true true false o f = refl
+refused true false c o f = refl
+refused false b c o f = refl
 
-module _ (w : List ℕ) (i v : ℕ) (within : i < length w) where
-  abbrev here : ℕ
-  here = get_or w i 0
+taken : (a b c : Bool) (o : Option ℕ) → b ≡ true → a ≡ true → c ≡ true → cond a (cond (b && c) o None) None ≡ o
+taken true true true o p q r = refl
+taken true true false o p q r = search rules
+taken true false c o p q r = search rules
+taken false b c o p q r = search rules
 
-  abbrev next : ℕ
-  next = v * 10 + (here - 48)
+module _ (w : List ℕ) where
+  abbrev v : ℕ
+  v = value_behind 0 w
 
-  first : read_behind v (drop i w) ≡ split (leb 48 here && leb here 57) next (drop (i + 1) w)
-  first = at_drop_more (read_behind v) w i 0 within
+  pub garbled : (IsUtf8 w → ⊥) → None ≡ number_of w
+  garbled h = search (rules, refused (leb 1 (length w)) (all_digits w) (leb v 4294967295) (Some v) (λ d some small. h (IsUtf8-from_ascii w (IsAscii-from_digits w (own.to w d)))))
 
-  pub digit_read : 48 ≤ here → here ≤ 57 → read_behind v (drop i w) ≡ read_behind next (drop (i + 1) w)
-  digit_read low high =
-      first ∙ ap (λ b. split (b && leb here 57) next (drop (i + 1) w)) (le-leb 48 here low) ∙ ap (λ b. split b next (drop (i + 1) w)) (le-leb here 57 high)
+  told : {E : Type 0} (r : Result ℕ E) → OkIff r (Digits w × (0 < length w) × (v < 2 ^ 32)) v → result_ok r ≡ number_of w
+  told (Ok x) h = search (rules, taken (leb 1 (length w)) (all_digits w) (leb v 4294967295) (Some v) h.0.0 (le-leb 1 (length w) h.0.1) (le-leb v 4294967295 (omega (arith, h.0.2))), h.1)
+  told (Err e) h = search (rules, refused (leb 1 (length w)) (all_digits w) (leb v 4294967295) (Some v) (λ d some small. h (d, leb-true 1 (length w) some, omega (arith, leb-true v 4294967295 small))))
 
-  pub no_digit : leb 48 here && leb here 57 ≡ false → read_behind v (drop i w) ≡ None
-  no_digit e = first ∙ ap (λ b. split b next (drop (i + 1) w)) e
-
-  pub over : 4294967295 < next → read_behind v (drop i w) ≡ None
-  over big = first ∙ too_much _ _ _ (lt-leb (value_behind next (drop (i + 1) w)) 4294967295 (omega (arith, grows next (drop (i + 1) w))))
-
-pub all_read : (w : List ℕ) (i v : ℕ) → length w ≤ i → v ≤ 4294967295 → read_behind v (drop i w) ≡ Some v
-all_read w i v past small = at_drop_all (read_behind v) w i past ∙ ap (λ b. cond b (Some v) None) (le-leb v 4294967295 small)
+  pub number_read : {E : Type 0} (r : Result ℕ E) → ParsesUnsigned 32 10 w r → get_or w 0 0 ≢ 43 → result_ok r ≡ number_of w
+  number_read r h plain = told r (parse_plain own 32 w r h plain)

@@ -4,116 +4,71 @@
 mod desk;
 mod floor;
 mod reply;
+mod trouble;
 mod words;
 
-use base::book::Entry;
 use desk::Desk;
 use reply::Reply;
 use std::io;
-use std::io::{BufWriter, Read, Stdin, Stdout, Write};
+use std::io::{BufRead, BufReader, BufWriter, Read, Stdin, Stdout, Write};
+use trouble::{Mistake, Trouble};
 
-// A longer line is a mistake; only so much of it is kept.
+// A longer line is a mistake; only so much of it is shown.
 const LONGEST: usize = 70_000;
 
-// A line as it comes in.
-#[derive(Drop)]
-struct Line {
-    bytes: Vec<u8>,
-    cut: bool,
+// How much of the input is read at a time.
+const PIECE: usize = 65_536;
+
+// The next line, without its line feed. Of one that is too long, one byte more than is shown is kept.
+fn next_line<'a>(
+    input: &mut BufReader<Stdin>,
+    line: &'a mut Vec<u8>,
+) -> io::Result<Option<&'a [u8]>> {
+    line.clear();
+    let most = LONGEST as u64 + 1;
+    if input.by_ref().take(most).read_until(b'\n', line)? == 0 {
+        return Ok(None);
+    }
+    if line.last() == Some(&b'\n') {
+        line.pop();
+    } else if line.len() > LONGEST {
+        input.skip_until(b'\n')?;
+    }
+    Ok(Some(line.as_slice()))
 }
 
-impl Line {
-    fn put(&mut self, byte: u8) -> io::Result<()> {
-        if self.bytes.len() < LONGEST {
-            self.bytes.push(byte)?;
-        } else {
-            self.cut = true;
-        }
-        Ok(())
-    }
-
-    fn clear(&mut self) {
-        self.bytes.clear();
-        self.cut = false;
-    }
-}
-
-fn show_book(out: &mut BufWriter<Stdout>, book: &[Entry]) -> io::Result<()> {
-    for (k, entry) in book.iter().enumerate() {
-        let number = k + 1;
-        let Entry {
-            grower,
-            amount,
-            carry,
-            figure,
-        } = *entry;
-        writeln!(out, "entry {number} {grower} {amount} {carry} {figure}")?;
-    }
-    Ok(())
-}
-
-// Answers a line that has come in whole; empty lines and remarks are passed over.
-fn answer(desk: &mut Desk, line: &Line, out: &mut BufWriter<Stdout>) -> io::Result<()> {
-    let reply = if line.cut {
-        Reply::Mistake("line too long")
-    } else {
-        match line.bytes.first() {
-            None | Some(b'#') => return Ok(()),
-            Some(_) => desk.answer(&line.bytes)?,
-        }
+// Answers a line; empty lines and remarks are passed over.
+fn answer(desk: &mut Desk, line: &[u8], out: &mut BufWriter<Stdout>) -> io::Result<()> {
+    let answered = match line.first() {
+        _ if line.len() > LONGEST => Err(Trouble::Mistake(Mistake::LineTooLong)),
+        None | Some(b'#') => return Ok(()),
+        Some(_) => desk.answer(line),
     };
-    if let Reply::Book(book) = &reply {
-        show_book(out, book)?;
+    if let Err(Trouble::OutOfMemory(error)) = answered {
+        return Err(error.into());
     }
-    out.write_all(&line.bytes)?;
-    writeln!(out, " -> {reply}")
-}
-
-fn feed(
-    desk: &mut Desk,
-    line: &mut Line,
-    bytes: &[u8],
-    out: &mut BufWriter<Stdout>,
-) -> io::Result<()> {
-    for byte in bytes {
-        if *byte == b'\n' {
-            answer(desk, line, out)?;
-            line.clear();
-        } else {
-            line.put(*byte)?;
-        }
+    if let Ok(Reply::Book(book)) = &answered {
+        write!(out, "{book}")?;
     }
-    Ok(())
-}
-
-// Answers the lines of the next piece of the input; false at its end.
-fn pump(
-    input: &mut Stdin,
-    piece: &mut [u8],
-    desk: &mut Desk,
-    line: &mut Line,
-    out: &mut BufWriter<Stdout>,
-) -> io::Result<bool> {
-    let count = input.read(piece)?;
-    feed(desk, line, &piece[0..count], out)?;
-    Ok(count > 0)
+    out.write_all(&line[..line.len().min(LONGEST)])?;
+    match answered {
+        Ok(reply) => writeln!(out, " -> {reply}"),
+        Err(trouble) => writeln!(out, " -> {trouble}"),
+    }
 }
 
 fn main(rt: HostRuntime) -> io::Result<()> {
     let heap = rt.alloc();
     let mut desk = Desk::new(heap);
-    let mut line = Line {
-        bytes: Vec::new(heap),
-        cut: false,
-    };
+    let mut line = Vec::new(heap);
+    let mut input = BufReader::with_capacity(heap, PIECE, rt.stdin())?;
     let mut out = BufWriter::new(heap, rt.stdout())?;
-    let mut input = rt.stdin();
-    let mut piece = vec![in heap; 0; 65536]?;
+    // counted, since no measure tells that an input ends; `split` would keep a line of any length
     for _ in 0..u64::MAX {
-        if !pump(&mut input, &mut piece, &mut desk, &mut line, &mut out)? {
+        let Some(line) = next_line(&mut input, &mut line)? else {
             break;
-        }
+        };
+        answer(&mut desk, line, &mut out)?;
     }
-    answer(&mut desk, &line, &mut out)?;
     out.flush()
 }

@@ -1,134 +1,115 @@
 // The words of a command.
-ghost use Rattle.std.specs.Prelude.{◌≡◌, not, ◌==◌};
-ghost use Rattle.std.specs.List.{prefix_len};
+ghost use Rattle.std.specs.Prelude.{◌≡◌, ◌<◌, ◌==◌, suc, length, position, None, Some, IfSome};
+ghost use Rattle.std.specs.Iterator.{at_most};
 ghost use Rattle.console.specs.Numbers.{number_of};
 
+use super::trouble::Mistake;
 use base::book::Batch;
 use frames::line::read_line;
 
-// What is left of a line behind its first words, which single blanks part.
+// What is left of a line behind its first words, which single blanks part; none at the line's end.
 #[derive(Drop)]
 pub struct Words<'a> {
-    rest: &'a [u8],
-    ended: bool,
+    rest: Option<&'a [u8]>,
 }
 
-// Where the first blank stands, or the length where there is none.
-fn blank(text: &[u8]) -> usize
-    ensures { result ≡ prefix_len (λ b. not (b == 32)) text.now }
+// Where the first blank stands.
+fn blank(text: &[u8]) -> Option<usize>
+    ensures is { result ≡ position (λ b. b == 32) text.now }
+    ensures inside { IfSome result (λ i. i < length text.now) }
 {
-    for (i, b) in text.iter().enumerate() {
-        if *b == b' ' {
-            return i;
-        }
+    text.iter().position(|b| *b == b' ')
+}
+
+// A blank at the end is followed by an empty word.
+impl<'a> Iterator for Words<'a> {
+    type Item = &'a [u8];
+
+    ghost remaining = { λ w. at_most (elim w.rest [ None ↦ 0 | Some t ↦ suc (length t.now) ]) };
+
+    fn next(&mut self) -> Option<&'a [u8]> {
+        let text = self.rest.take()?;
+        let Some(end) = blank(text) else {
+            return Some(text);
+        };
+        self.rest = Some(&text[end + 1..]);
+        Some(&text[..end])
     }
-    text.len()
 }
 
 impl<'a> Words<'a> {
     pub fn of(line: &'a [u8]) -> Words<'a> {
-        Words {
-            rest: line,
-            ended: false,
-        }
+        Words { rest: Some(line) }
     }
 
-    // The next word; a blank at the end is followed by an empty one.
-    pub fn word(&mut self) -> Option<&'a [u8]> {
-        if self.ended {
-            return None;
-        }
-        let text = self.rest;
-        let end = blank(text);
-        if end < text.len() {
-            self.rest = &text[end + 1..];
-        } else {
-            self.ended = true;
-        }
-        Some(&text[0..end])
+    pub fn word(&mut self) -> Result<&'a [u8], Mistake> {
+        self.next().ok_or(Mistake::WrongWords)
     }
 
     // All that is left, as it stands.
-    pub fn text(&mut self) -> Option<&'a [u8]> {
-        if self.ended {
-            return None;
-        }
-        self.ended = true;
-        Some(self.rest)
+    pub fn text(&mut self) -> Result<&'a [u8], Mistake> {
+        self.rest.take().ok_or(Mistake::WrongWords)
     }
 
-    pub fn number(&mut self) -> Option<u32> {
-        number(self.word()?)
+    // No word may be left.
+    pub fn end(&self) -> Result<(), Mistake> {
+        match self.rest {
+            None => Ok(()),
+            Some(_) => Err(Mistake::WrongWords),
+        }
+    }
+
+    pub fn number(&mut self) -> Result<u32, Mistake> {
+        number(self.word()?).ok_or(Mistake::WrongWords)
     }
 
     // The next word, which is to be the last.
-    pub fn last_word(&mut self) -> Option<&'a [u8]> {
+    pub fn last_word(&mut self) -> Result<&'a [u8], Mistake> {
         let word = self.word()?;
-        if self.ended { Some(word) } else { None }
+        self.end()?;
+        Ok(word)
     }
 
-    pub fn last_number(&mut self) -> Option<u32> {
-        number(self.last_word()?)
+    pub fn last_number(&mut self) -> Result<u32, Mistake> {
+        number(self.last_word()?).ok_or(Mistake::WrongWords)
     }
 
-    pub fn last_two(&mut self) -> Option<(u32, u32)> {
-        let first = self.number()?;
-        let second = self.last_number()?;
-        Some((first, second))
+    pub fn last_two(&mut self) -> Result<(u32, u32), Mistake> {
+        Ok((self.number()?, self.last_number()?))
     }
 
-    pub fn last_batch(&mut self) -> Option<Batch> {
-        let grower = self.number()?;
-        let fruit = self.number()?;
-        let oil = self.last_number()?;
-        Some(Batch { grower, fruit, oil })
-    }
-
-    // Whether no word is left.
-    pub fn is_done(&self) -> bool {
-        self.ended
+    pub fn last_batch(&mut self) -> Result<Batch, Mistake> {
+        Ok(Batch {
+            grower: self.number()?,
+            fruit: self.number()?,
+            oil: self.last_number()?,
+        })
     }
 }
 
 // The number that decimal digits stand for, if it is of 32 bits.
-pub fn number(word: &[u8]) -> Option<u32>
+fn number(word: &[u8]) -> Option<u32>
     ensures { result ≡ number_of word.now }
 {
-    if word.is_empty() {
+    // the library takes a sign
+    if word.starts_with(b"+") {
         return None;
     }
-    let mut value: u32 = 0;
-    for b in word {
-        if !b.is_ascii_digit() {
-            return None;
-        }
-        let next = value as u64 * 10 + (*b - b'0') as u64;
-        if next > 4_294_967_295 {
-            return None;
-        }
-        value = next as u32;
-    }
-    Some(value)
+    str::from_utf8(word).ok()?.parse::<u32>().ok()
 }
 
 // The word of sixteen hexadecimal digits.
-pub fn hex_word(text: &[u8]) -> Option<u64> {
-    if text.len() != 16 {
-        return None;
-    }
-    let b = read_line(text).ok()?.bytes;
-    Some(u64::from_be_bytes([b[0], b[1], b[2], b[3], b[4], b[5], b[6], b[7]]))
+pub fn hex_word(text: &[u8]) -> Result<u64, Mistake> {
+    Ok(u64::from_be_bytes(spelled(text)?))
 }
 
 // The statement of 48 hexadecimal digits.
-pub fn statement(text: &[u8]) -> Option<[u8; 24]> {
-    if text.len() != 48 {
-        return None;
-    }
-    let bytes = read_line(text).ok()?.bytes;
-    let mut statement = [0; 24];
-    for (to, from) in statement.iter_mut().zip(bytes.iter()) {
-        *to = *from;
-    }
-    Some(statement)
+pub fn statement(text: &[u8]) -> Result<[u8; 24], Mistake> {
+    spelled(text)
+}
+
+// The bytes that hexadecimal digits spell, just so many.
+fn spelled<const N: usize>(text: &[u8]) -> Result<[u8; N], Mistake> {
+    let line = read_line(text).map_err(|_| Mistake::WrongWords)?;
+    <[u8; N]>::try_from(line.as_slice()).map_err(|_| Mistake::WrongWords)
 }

@@ -5,3 +5,4 @@ pub mod Packed
 pub mod Certificates
 pub mod Typed
 pub mod Bothways
+pub mod Shown

@@ -7,6 +7,7 @@ pub mod encode;
 pub mod frame;
 pub mod line;
 pub mod pool;
+mod show;
 pub mod slot;
 #[cfg(test)]
 mod tests;
