@@ -17,14 +17,14 @@ pub enum Kind {
 }
 
 // A station and its tag on what it stated itself.
-#[derive(Clone, Copy)]
+#[derive(Clone, Copy, Default)]
 pub struct Pair {
     pub station: u8,
     pub tag: u64,
 }
 
 // The first `count` of the eight are the frame's; a count above eight is read as eight.
-#[derive(Clone, Copy)]
+#[derive(Clone, Copy, Default)]
 pub struct Pairs {
     pub count: u8,
     pub each: [Pair; 8],

@@ -1,4 +1,5 @@
-use Rattle.std.proofs.Common.{arith}
+use Rattle.std.proofs.Common.{◌≡◌, arith, rules}
+use Rattle.protocol.specs.Steps.{no_batch}
 use Rattle.hall.specs.Join.{terms}
 use Rattle.hall.proofs.Desks.{decided}
 use Rattle.hall.proofs.Ranges.{in_books}
@@ -14,4 +15,6 @@ bounds-books-place g c =
 pub returns : goal.returns
 returns g c =
     let a = c.args in
-    decided (terms g.R.Rule g.P.Policy g.S.Check a.self.now) a.i a.entry a.pairs a.st.now a.pool.now c.send.new.pool a.books.now _ c.book_place-place.ensures c.requires.quorum c.send.ensures.row
+    let cleared : c.default-st.result ≡ no_batch = search rules in
+    rw cleared
+    (decided (terms g.R.Rule g.P.Policy g.S.Check a.self.now) a.who.i a.entry a.pairs a.st.now a.pool.now c.send.new.pool a.books.now _ c.book_place-place.ensures c.requires.quorum (rw c.draft.ensures at c.send.ensures.row))
