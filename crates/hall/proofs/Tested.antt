@@ -1,5 +1,6 @@
 -- The tests of Deliver, in the parts that the code makes them in.
-use Rattle.std.proofs.Common.{◌≡◌, ℕ, ◌+◌, Bool, true, false, leb, List, length, Ok, Err, Option, Result, refl, ap, ◌∙◌}
+use Rattle.std.proofs.Common.{◌≡◌, ℕ, ◌+◌, Bool, true, false, leb, List, length, Some, Ok, Err, Option, Result, refl, ap, ◌∙◌, arith}
+use Rattle.std.specs.Result.{result_ok}
 use Rattle.base.specs.declared.fault.Fault.{Fault}
 use Rattle.base.specs.declared.refusal.Refusal.TheVariants.{Idle, NoFrame, EarlierBatch, LaterBatch, SenderTag}
 use Rattle.frames.specs.declared.frame.Frame.{Frame}
@@ -40,6 +41,7 @@ module _ (d : Terms) (i : ℕ) (s : Station) (pool : List Slot) (place : ℕ) wh
 
 -- a frame by its fields may be forged
 pub forgery_found : (d : Terms) (f : Frame) (pool : List Slot) (parsed : Result Frame Fault) (o : Option ℕ)
-    → o ≡ forged_in d.faulty d.tag f pool → Ok f ≡ parsed → o ≡ forgery_at d parsed pool
+    → o ≡ forged_in d.faulty d.tag f pool → Some f ≡ result_ok parsed → o ≡ forgery_at d parsed pool
 unfolding forged_at forged_sender_in
-forgery_found d f pool parsed o found read = found ∙ ap (λ r. forgery_at d r pool) read
+forgery_found d f pool (Ok x) o found read = let same : f ≡ x = cc in found ∙ ap (λ y. forged_at d y pool) same
+forgery_found d f pool (Err e) o found read = let z : ◌≡◌ {A = ℕ} 0 1 = cc in let w : ⊥ = omega arith in absurd w

@@ -102,9 +102,8 @@ impl<R: Rule, P: Policy, S: Sealing> Setup<R, P, S> {
     {
         ensure(!is_lawful(st.work), Refusal::AtWork)?;
         ensure(st.booked < self.batches, Refusal::IntakeUsedUp)?;
-        let Some(batch) = Checked::new(intake[st.booked as usize]) else {
-            return Err(Fault::new(Refusal::UnlawfulBatch, 0));
-        };
+        let unlawful = Fault::new(Refusal::UnlawfulBatch, 0);
+        let batch = Checked::new(intake[st.booked as usize]).ok_or(unlawful)?;
         roomy(pool)?;
         Ok(batch)
     }
@@ -187,10 +186,8 @@ impl<R: Rule, P: Policy, S: Sealing> Setup<R, P, S> {
     fn forgery(&self, bytes: &[u8], pool: &[Slot]) -> Option<usize>
         ensures { result ≡ forgery_at (terms R.Rule P.Policy S.Check self.now) (decoded self.now.table.n self.now.table.t self.now.batches bytes.now) pool.now }
     {
-        match self.decode(bytes) {
-            Ok(frame) => forged(&self.table, &self.seal, &frame, pool),
-            Err(_) => None,
-        }
+        let frame = self.decode(bytes).ok()?;
+        forged(&self.table, &self.seal, &frame, pool)
     }
 
     #[tactic(auto, unfolding(protocol::specs::Ready::inject_ready))]

@@ -55,11 +55,11 @@ impl<R: Rule, P: Policy, S: Sealing> Setup<R, P, S> {
     }
 
     // Whether a station works the batch out under the committee after c.
-    fn is_called(&self, i: u32, c: u32, proposed: bool) -> bool
+    fn is_called(&self, who: Standing, c: u32, proposed: bool) -> bool
         requires { c < 20000 }
-        ensures { result ≡ called_upon (P.Policy.seats self.now.policy) i c proposed }
+        ensures { result ≡ called_upon (P.Policy.seats self.now.policy) who.i c proposed }
     {
-        self.policy.seated(c + 1, i) && !proposed
+        self.policy.seated(c + 1, who.i) && !proposed
     }
 
     // Where the next entry of a station is booked.
@@ -197,12 +197,9 @@ impl<R: Rule, P: Policy, S: Sealing> Setup<R, P, S> {
         let next = (c + 1) as u16;
         if self.policy.seated(c, who.i) {
             self.call_up(who, batch, next, Pairs::default(), pool);
-            return;
+        } else if self.policy.seated(c + 1, who.i) {
+            self.call_up(who, batch, next, proof, pool);
         }
-        if !self.policy.seated(c + 1, who.i) {
-            return;
-        }
-        self.call_up(who, batch, next, proof, pool);
     }
 
     // The station goes on to the next committee; a member of it that has not proposed proposes and settles.
@@ -221,7 +218,7 @@ impl<R: Rule, P: Policy, S: Sealing> Setup<R, P, S> {
         let c = st.number;
         self.announce(who, (st.booked + 1) as u16, c, proof, pool);
         st.number = c + 1;
-        if !self.is_called(who.i, c, st.proposed) {
+        if !self.is_called(who, c, st.proposed) {
             return (true, false, false);
         }
         let decided = self.join_on(who, st, pool, books);
