@@ -42,6 +42,7 @@ fn mark(pool: &mut [Slot], f: u32)
 
 impl<R: Rule, P: Policy, S: Sealing> Setup<R, P, S> {
     // The next batch is taken up; a member of committee 0 proposes.
+    #[tactic(auto, unfolding(protocol::specs::Ready::open_on))]
     pub(crate) fn open_on(
         &self,
         who: Standing,
@@ -62,6 +63,7 @@ impl<R: Rule, P: Policy, S: Sealing> Setup<R, P, S> {
     }
 
     // A frame is taken.
+    #[tactic(auto, unfolding(protocol::specs::Ready::deliver_on, protocol::specs::Ready::marked_taken))]
     pub(crate) fn deliver_on(
         &self,
         who: Standing,

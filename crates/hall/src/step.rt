@@ -81,6 +81,7 @@ impl<R: Rule, P: Policy, S: Sealing> Setup<R, P, S> {
     }
 
     // A frame of a station's own enters the pool; answers its tag.
+    #[tactic(auto, unfolding(evidence::specs::Issue::right_tag))]
     fn send(&self, frame: &Frame, pool: &mut [Slot]) -> u64
         ensures answer { result ≡ S.Check.tag self.now.seal frame.now.sender (stated frame.now) }
         ensures row { pool.new ≡ sent (terms R.Rule P.Policy S.Check self.now) frame.now.sender (stated frame.now) (map plain (listed frame.now.pairs)) pool.old }
@@ -89,6 +90,7 @@ impl<R: Rule, P: Policy, S: Sealing> Setup<R, P, S> {
     }
 
     // The station works its entry out, stores its vote and issues a proposal.
+    #[tactic(auto, unfolding(protocol::specs::Desk::propose_on, protocol::specs::Law::works))]
     pub(crate) fn propose_on(
         &self,
         who: Standing,
@@ -115,6 +117,7 @@ impl<R: Rule, P: Policy, S: Sealing> Setup<R, P, S> {
     }
 
     // The station books an entry, issues the decision with its pairs, and is idle.
+    #[tactic(auto, unfolding(protocol::specs::Desk::decide_on))]
     pub(crate) fn decide_on(
         &self,
         who: Standing,
@@ -162,6 +165,7 @@ impl<R: Rule, P: Policy, S: Sealing> Setup<R, P, S> {
     }
 
     // The station proposes, and settles.
+    #[tactic(auto, unfolding(protocol::specs::Desk::join_on))]
     fn join_on(
         &self,
         who: Standing,
@@ -189,6 +193,7 @@ impl<R: Rule, P: Policy, S: Sealing> Setup<R, P, S> {
     }
 
     // A member of committee c calls up the next one, without a pair; one of the next alone shows a pair.
+    #[tactic(auto, unfolding(protocol::specs::Desk::announced))]
     fn announce(&self, who: Standing, batch: u16, c: u32, proof: Pairs, pool: &mut [Slot])
         requires low { c < 20000 }
         requires shown { P.Policy.seats self.now.policy c who.i ≡ false → proof.count ≡ 1 }
@@ -203,6 +208,7 @@ impl<R: Rule, P: Policy, S: Sealing> Setup<R, P, S> {
     }
 
     // The station goes on to the next committee; a member of it that has not proposed proposes and settles.
+    #[tactic(auto, unfolding(protocol::specs::Desk::reselect_on))]
     pub(crate) fn reselect_on(
         &self,
         who: Standing,
@@ -239,6 +245,7 @@ impl<R: Rule, P: Policy, S: Sealing> Setup<R, P, S> {
     }
 
     // A vote is stored and settled; a member that finds another entry than its own reselects.
+    #[tactic(auto, unfolding(protocol::specs::Desk::vote_on))]
     pub(crate) fn vote_on(
         &self,
         who: Standing,

@@ -4,13 +4,8 @@ use Rattle.protocol.specs.Desk.{Desk}
 use Rattle.hall.specs.Called.{desk}
 use Rattle.hall.specs.Join.{terms}
 use Rattle.hall.proofs.Defaults.{unpaired}
-use Rattle.hall.proofs.Desks.{vote_decides, vote_waits, vote_moves, may_move, differing}
+use Rattle.hall.proofs.Desks.{vote_waits, vote_moves, may_move, differing}
 use Rattle.hall.proofs.setup.Setup.vote_on.Goals as goal
-
-pub returns-then-settle_on : goal.returns-then-settle_on
-returns-then-settle_on g c =
-    let a = c.args in
-    vote_decides (terms g.R.Rule g.P.Policy g.S.Check a.self.now) a.who.i a.q a.vote (desk a.st.now a.pool.now a.books.now) _ (rw c.from.ensures at c.if-settle_on.ensures)
 
 pub returns-then-not-differs_on : goal.returns-then-not-differs_on
 returns-then-not-differs_on g c =
