@@ -1,5 +1,5 @@
 // The steps of one station, on its own record, which the hall lends.
-ghost use Rattle.std.specs.Prelude.{◌≡◌, ◌+◌, ◌*◌, ◌<◌, ◌≤◌, false, map, length, replicate, nat_lt};
+ghost use Rattle.std.specs.Prelude.{◌≡◌, ◌+◌, ◌*◌, ◌<◌, ◌≤◌, true, false, map, length, replicate, nat_lt};
 ghost use Rattle.frames.specs.Bytes.{statement};
 ghost use Rattle.frames.specs.Typed.{listed, plain, stated};
 ghost use Rattle.protocol.specs.Desk.{own_vote, carry_of, sent, propose_on, decide_on, settle_on, join_on, announced, reselect_on, differs_on, vote_on};
@@ -153,7 +153,8 @@ impl<R: Rule, P: Policy, S: Sealing> Setup<R, P, S> {
         books: &mut [Entry],
     ) -> bool
         requires { Placed (terms R.Rule P.Policy S.Check self.now) who.i st.old (length books.old) }
-        ensures { (desk st.new pool.new books.new, result) ≡ settle_on (terms R.Rule P.Policy S.Check self.now) who.i entry (desk st.old pool.old books.old) }
+        ensures is { (desk st.new pool.new books.new, result) ≡ settle_on (terms R.Rule P.Policy S.Check self.now) who.i entry (desk st.old pool.old books.old) }
+        ensures stays { result ≡ false → desk st.new pool.new books.new ≡ desk st.old pool.old books.old }
     {
         match quorum(&st.votes, self.table.stations(), self.quorum_size(), entry) {
             Some(pairs) => {
@@ -234,7 +235,9 @@ impl<R: Rule, P: Policy, S: Sealing> Setup<R, P, S> {
     // Whether station q is a fellow member whose entry differs from the station's own.
     #[tactic(auto, unfolding(protocol::specs::Desk::differs_on, protocol::specs::Steps::same_entry))]
     fn differs_on(&self, who: Standing, q: u8, entry: Entry, st: &Station) -> bool
-        ensures { result ≡ differs_on (terms R.Rule P.Policy S.Check self.now) who.i q entry st.now }
+        ensures is { result ≡ differs_on (terms R.Rule P.Policy S.Check self.now) who.i q entry st.now }
+        ensures seated { result ≡ true → P.Policy.seats self.now.policy st.now.number who.i ≡ true }
+        ensures low { result ≡ true → st.now.number < 20000 }
     {
         let c = st.number;
         self.policy.seated(c, who.i)
