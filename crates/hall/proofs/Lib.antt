@@ -1,7 +1,7 @@
 pub mod Passing
 pub mod Lawful
 pub mod Ranges
-pub mod Desks
+pub mod Quorums
 pub mod Tested
 pub mod Whole
 pub mod Defaults

@@ -1,5 +1,5 @@
 -- A call is its tests and then its step: what was tested and what was done come to the whole call.
-use Rattle.std.proofs.Common.{◌≡◌, ℕ, ◌+◌, ◌-◌, ◌*◌, ◌<◌, ◌≤◌, min, Bool, true, false, not, ltb, leb, List, [], length, get_or, take, set, Ok, Err, Result, sym, refl, ap, ◌∙◌, subst, arith}
+use Rattle.std.proofs.Common.{◌≡◌, ℕ, ◌+◌, ◌-◌, ◌*◌, ◌<◌, ◌≤◌, min, true, false, not, ltb, leb, List, [], length, get_or, take, set, Ok, Err, Result, sym, refl, ap, ◌∙◌, subst, arith}
 use Rattle.std.proofs.lemmas.Bool.{ltb-true, leb-true}
 use Rattle.std.proofs.lemmas.List.{get_or_default, take_all, length-take}
 use Rattle.base.specs.declared.book.Batch.{Batch}
@@ -20,7 +20,7 @@ use Rattle.protocol.specs.Desk.{Desk, reselect_on}
 use Rattle.protocol.specs.Ready.{through, answered, stands, open_ready, ring_ready, deliver_ready, inject_ready, open_on, deliver_on}
 use Rattle.protocol.proofs.Bounds.{call_bounded}
 use Rattle.protocol.proofs.Splits.{open_is, ring_is, deliver_is, inject_is}
-use Rattle.protocol.proofs.Passed.{Opens, open_passed, Rings, ring_passed, Delivers, deliver_passed}
+use Rattle.protocol.proofs.Passed.{passing_ok, Opens, open_passed, Rings, ring_passed, Delivers, deliver_passed}
 use Rattle.rules.specs.declared.rule.Rule as Rule
 use Rattle.policies.specs.declared.policy.Policy as Policy
 use Rattle.seals.specs.declared.seal.Check as Check
@@ -114,12 +114,10 @@ module _ {R P S : Type 0} (r : Rule.Ghosts R) (p : Policy.Ghosts P) (s : Check.G
       lent = get_or h.stations j blank
 
       same : j ≡ i
-      same = on (ltb i d.n) (not (d.faulty i)) stood
-        where
-          on : (a b : Bool) → ◌≡◌ {A = Result ℕ Fault} (Ok j) (passing a NoStation (passing b FaultyStation (Ok i))) → j ≡ i
-          on true true q = cc
-          on true false q = let z : ◌≡◌ {A = ℕ} 0 1 = cc in let y : ⊥ = omega arith in absurd y
-          on false b q = let z : ◌≡◌ {A = ℕ} 0 1 = cc in let y : ⊥ = omega arith in absurd y
+      same =
+          let rest = (passing_ok (ltb i d.n) NoStation (passing (not (d.faulty i)) FaultyStation (Ok i)) j (sym stood)).1 in
+          let one : ◌≡◌ {A = Result ℕ Fault} (Ok i) (Ok j) = (passing_ok (not (d.faulty i)) FaultyStation (Ok i) j rest).1 in
+          cc
 
       there : ◌≡◌ {A = Result ℕ Fault} (Ok j) (stands d j (Ok j))
       there = stood ∙ ap (λ x. stands d x (Ok x)) (sym same)

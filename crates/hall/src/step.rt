@@ -166,7 +166,7 @@ impl<R: Rule, P: Policy, S: Sealing> Setup<R, P, S> {
     }
 
     // The station proposes, and settles.
-    #[tactic(auto, unfolding(protocol::specs::Desk::join_on))]
+    #[tactic(auto, unfolding(protocol::specs::Desk::join_on, protocol::specs::Desk::propose_on))]
     fn join_on(
         &self,
         who: Standing,

@@ -1,6 +1,6 @@
 use Rattle.hall.specs.Called.{desk}
 use Rattle.hall.specs.Join.{terms}
-use Rattle.hall.proofs.Desks.{settles, waits}
+use Rattle.hall.proofs.Quorums.{settles, waits}
 use Rattle.hall.proofs.setup.Setup.settle_on.Goals as goal
 
 pub returns-in-Some-clause-is : goal.returns-in-Some-clause-is
