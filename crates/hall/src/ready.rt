@@ -60,10 +60,7 @@ pub(crate) fn record_at(stations: &[Station; 16], who: Standing) -> &Station
 pub(crate) fn frame_in(pool: &[Slot], f: u32) -> &[u8]
     ensures { result.now ≡ frame_at pool.now f }
 {
-    match pool.get(f as usize) {
-        Some(slot) => slot.frame(),
-        None => &[],
-    }
+    pool.get(f as usize).map_or(&[], |slot| slot.frame())
 }
 
 // A call needs three free slots, as many as it can use.

@@ -225,11 +225,9 @@ impl<R: Rule, P: Policy, S: Sealing> Setup<R, P, S> {
         let c = st.number;
         self.announce(who, (st.booked + 1) as u16, c, proof, pool);
         st.number = c + 1;
-        if !self.is_called(who, c, st.proposed) {
-            return (true, false, false);
-        }
-        let decided = self.join_on(who, st, pool, books);
-        (true, true, decided)
+        let called = self.is_called(who, c, st.proposed);
+        let decided = called && self.join_on(who, st, pool, books);
+        (true, called, decided)
     }
 
     // Whether station q is a fellow member whose entry differs from the station's own.
