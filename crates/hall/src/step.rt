@@ -46,6 +46,9 @@ fn draft(kind: Kind, who: Standing, batch: u16) -> Frame
     }
 }
 
+// Record, pool and books stay three parameters: as a struct of `&mut`s every step would ensure three ghost names more,
+// and Open, which may only read the books, would need a second struct.
+// `Placed` and the like stay `requires`: no ghost field may stand beside the `&mut` that lends the record.
 impl<R: Rule, P: Policy, S: Sealing> Setup<R, P, S> {
     // How many stations decide an entry.
     fn quorum_size(&self) -> u32
@@ -102,6 +105,7 @@ impl<R: Rule, P: Policy, S: Sealing> Setup<R, P, S> {
         ensures own { result ≡ own_vote who.i st.new }
         ensures same { desk st.new pool.new books.now ≡ propose_on (terms R.Rule P.Policy S.Check self.now) who.i (desk st.old pool.old books.now) }
     {
+        // The record has its batch in plain numbers, for they may be those of an idle station.
         let Some(batch) = Checked::new(st.work) else {
             unreachable()
         };

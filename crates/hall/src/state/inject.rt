@@ -14,7 +14,7 @@ use policies::policy::Policy;
 use rules::rule::Rule;
 use seals::seal::Sealing;
 
-// Who puts a frame from outside into the pool.
+// Who puts a frame from outside into the pool; a number, since a slot is plain data that the caller lends.
 const OUTSIDE: u8 = 1;
 
 impl<R: Rule, P: Policy, S: Sealing> Hall<R, P, S> {
