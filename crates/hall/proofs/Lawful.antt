@@ -1,8 +1,8 @@
 -- What the table, the rule, the policy and the seal promise makes the terms of a hall lawful.
-use Rattle.std.proofs.Common.{◌≡◌, ℕ, zero, suc, ◌+◌, ◌*◌, ◌^◌, ◌<◌, ◌≤◌, Bool, true, false, cond, ◌&&◌, leb, ◌⊎◌, List, length, get_or, count_by, sym, refl, ap, ◌∙◌, inl, inr, add_comm, add-one, arith}
+use Rattle.std.proofs.Common.{◌≡◌, ℕ, zero, suc, ◌+◌, ◌*◌, ◌^◌, ◌<◌, ◌≤◌, Bool, true, cond, ◌&&◌, leb, ◌⊎◌, List, length, get_or, count_by, sym, refl, ap, ◌∙◌, inl, inr, add_comm, add-one, arith}
 use Rattle.std.proofs.lemmas.List.{take_all, get_or_past}
 use Rattle.std.proofs.lemmas.List.Sums.{sum_by_more}
-use Rattle.std.proofs.lemmas.Bool.{cases_lt, leb-true, and_parts}
+use Rattle.std.proofs.lemmas.Bool.{cases_lt, false_from_ne_true, leb-true, and_parts}
 use Rattle.base.specs.declared.book.Batch.{Batch}
 use Rattle.rules.specs.Lawful.{lawful}
 use Rattle.rules.specs.declared.rule.Rule as Rule
@@ -14,11 +14,6 @@ use Rattle.protocol.specs.Run.{Lawful, Owes, size}
 use Rattle.protocol.proofs.Agreement.{holds}
 use Rattle.hall.specs.declared.setup.Setup.{Setup}
 use Rattle.hall.specs.Join.{terms}
-
--- a test that is not true is false
-untrue : (b : Bool) → (b ≡ true → ⊥) → b ≡ false
-untrue true never = absurd (never refl)
-untrue false never = refl
 
 -- the two ways to count a set are one
 size-count : (f : ℕ → Bool) (n : ℕ) → size f n ≡ count f n
@@ -95,7 +90,7 @@ module _ {R P S : Type 0} (r : Rule.Ghosts R) (p : Policy.Ghosts P) (s : Check.G
         covers = λ bad few a l.
             let same = size-count bad (p.stations j.policy) in
             let (c, low, high, apart) = laws.covering a bad (omega (arith, same, few)) (omega (arith, l, top)) in
-            (c, low, high, λ i _ sits. untrue (bad i) (apart i sits));
+            (c, low, high, λ i _ sits. false_from_ne_true (bad i) (apart i sits));
         never_idle = refl;
         growers = grower_fits;
         fits = λ c b _ ok. let (a, f) = laws.fits c b ok in (a, f, omega (arith, laws.within c b ok));

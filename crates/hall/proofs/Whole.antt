@@ -1,247 +1,268 @@
 -- A call is its tests and then its step: what was tested and what was done come to the whole call.
-use Rattle.std.proofs.Common.{◌≡◌, ℕ, ◌<◌, ◌≤◌, min, Bool, true, false, List, [], length, get_or, take, set, Ok, Err, Result, sym, refl, ap, ◌∙◌, subst, arith}
+use Rattle.std.proofs.Common.{◌≡◌, ℕ, ◌+◌, ◌-◌, ◌*◌, ◌<◌, ◌≤◌, min, true, false, not, ltb, leb, List, [], length, get_or, take, set, Ok, Err, Result, sym, refl, ap, ◌∙◌, subst, arith}
+use Rattle.std.proofs.lemmas.Bool.{ltb-true, leb-true}
+use Rattle.std.proofs.lemmas.List.{get_or_default, take_all, length-take}
 use Rattle.base.specs.declared.book.Batch.{Batch}
 use Rattle.base.specs.declared.book.Entry.{Entry}
 use Rattle.base.specs.declared.fault.Fault.{Fault}
-use Rattle.base.specs.declared.refusal.Refusal.TheVariants.{OutOfRange, WrongLength}
+use Rattle.base.specs.declared.refusal.Refusal.TheVariants.{OutOfRange, WrongLength, NoStation, FaultyStation}
 use Rattle.frames.specs.declared.bytes.FrameBytes.{FrameBytes}
 use Rattle.frames.specs.declared.frame.Frame.{Frame}
 use Rattle.frames.specs.declared.slot.Slot.{Slot}
 use Rattle.frames.specs.Packed.{unpacked}
 use Rattle.frames.specs.Slots.{frame_at, enter, slot_of}
+use Rattle.frames.proofs.Basics.{and_true}
 use Rattle.protocol.specs.declared.station.Station.{Station}
 use Rattle.protocol.specs.Law.{Terms, Call, Marks, opening, delivery, ringing, injection}
-use Rattle.protocol.specs.Steps.{World, Acted, test, refused, passing, act, in_range, fitting, whole_call, no_station, no_batch}
+use Rattle.protocol.specs.Steps.{World, Acted, passing, act, in_range, fitting, open_call, ring_call, deliver_call, whole_call, no_station, no_batch}
 use Rattle.protocol.specs.Bounds.{Bounded}
 use Rattle.protocol.specs.Desk.{Desk, reselect_on}
-use Rattle.protocol.specs.Ready.{through, answered, open_ready, ring_ready, deliver_ready, inject_ready, open_on, deliver_on}
+use Rattle.protocol.specs.Ready.{through, answered, stands, open_ready, ring_ready, deliver_ready, inject_ready, open_on, deliver_on}
 use Rattle.protocol.proofs.Bounds.{call_bounded}
 use Rattle.protocol.proofs.Splits.{open_is, ring_is, deliver_is, inject_is}
-use Rattle.protocol.proofs.Passed.{Opens, open_passed, Rings, ring_passed, Delivers, deliver_passed}
-use Rattle.std.proofs.lemmas.List.{get_or_default, take_all, length-take}
-use Rattle.hall.specs.Called.{world, desk, admitted}
+use Rattle.protocol.proofs.Passed.{passing_ok, Opens, open_passed, Rings, ring_passed, Delivers, deliver_passed}
 use Rattle.rules.specs.declared.rule.Rule as Rule
 use Rattle.policies.specs.declared.policy.Policy as Policy
 use Rattle.seals.specs.declared.seal.Check as Check
-use Rattle.hall.specs.declared.setup.Setup.{Setup}
+use Rattle.hall.specs.declared.state.Hall.{Hall}
+use Rattle.hall.specs.Called.{world, desk, admitted, among}
 use Rattle.hall.specs.Join.{terms}
+use Rattle.hall.specs.Parts.{States, open_tests, ring_tests, deliver_tests}
 use Rattle.hall.specs.Steady.{Steady}
-use Rattle.hall.proofs.Lawful.{sound_table}
-use Rattle.hall.specs.Parts.{States}
 use Rattle.hall.specs.Working.{Placed, Working, Moving, Delivered}
-use Rattle.hall.proofs.Ranges.{few_batches, Sizes, sizes}
+use Rattle.hall.proofs.Lawful.{SoundTable, sound_table}
+use Rattle.hall.proofs.Passing.{both_hold, both_pass, one_refuses}
+use Rattle.hall.proofs.Ranges.{few_batches, Sizes, sizes, in_books}
+use Rattle.hall.proofs.Tested.{deliver_parts}
 
--- the tests of the buffers do not look at the records
-pub admits : (d : Terms) (intake : List Batch) (stations : List Station) (pool : List Slot) (books : List Entry)
-    → admitted d intake (world [] pool books) ≡ admitted d intake (world stations pool books)
-unfolding fitting
-admits d intake stations pool books = refl
+-- what a place of an array is read with where it were not there
+abbrev blank : Station
+blank = record { booked = 0; work = no_batch; number = 0; proposed = false; votes = [] }
 
-module _ (d : Terms) (intake : List Batch) (c : Call) (w : World) where
-  -- what comes of the two tests in front
-  stopped : (x : Fault) (a b : Bool) → ◌≡◌ {A = Result (Unit {0}) Fault} (Err x) (passing a OutOfRange (passing b WrongLength (Ok tt)))
-      → ◌≡◌ {A = Acted} (w, Err x) (test a (refused w OutOfRange 0) (test b (refused w WrongLength 0) (act d intake c w)))
-  stopped x true true e = let z : ◌≡◌ {A = ℕ} 0 1 = cc in let y : ⊥ = omega arith in absurd y
-  stopped x true false e = ap (λ (f : Fault). (w, Err f)) (cc)
-  stopped x false b e = ap (λ (f : Fault). (w, Err f)) (cc)
+module _ {R P S : Type 0} (r : Rule.Ghosts R) (p : Policy.Ghosts P) (s : Check.Ghosts S)
+    (h : Hall R P S) (intake : List Batch) (pool : List Slot) (books : List Entry) where
+  abbrev d : Terms
+  d = terms r p s h.setup
 
-  pub not_admitted : (x : Fault) → Err x ≡ admitted d intake w → ◌≡◌ {A = Acted} (w, Err x) (whole_call d intake c w)
-  unfolding whole_call
-  not_admitted x e = stopped x (in_range d) (fitting d intake w) e
+  abbrev w : World
+  w = world h.stations pool books
 
-  passed : (a b : Bool) → ◌≡◌ {A = Result (Unit {0}) Fault} (Ok tt) (passing a OutOfRange (passing b WrongLength (Ok tt))) → (a ≡ true) × (b ≡ true)
-  passed true true e = (refl, refl)
-  passed true false e = let z : ◌≡◌ {A = ℕ} 0 1 = cc in let y : ⊥ = omega arith in absurd y
-  passed false b e = let z : ◌≡◌ {A = ℕ} 0 1 = cc in let y : ⊥ = omega arith in absurd y
+  table : SoundTable h.setup.table.n h.setup.table.t h.setup.table.marks
+  table = sound_table h.setup.table.n h.setup.table.t h.setup.table.marks h.setup.table.ok
 
-  pub in_order : Ok tt ≡ admitted d intake w → (in_range d ≡ true) × (fitting d intake w ≡ true)
-  in_order e = passed (in_range d) (fitting d intake w) e
+  -- what the hall keeps of its records stays
+  pub kept : (c : Call) (m : Acted) → m ≡ whole_call d intake c w → Steady h.setup.batches m.0.stations
+  kept c m is =
+      let before : Bounded d (length pool) (length books) w = record {
+        station_places = h.steady.0;
+        pool_places = refl;
+        book_places = refl;
+        each = λ i. let (a, b, n, v) = h.steady.1 i in record { booked_most = a; booked_less = b; number_most = n; vote_places = v };
+      } in
+      let after : Bounded d (length pool) (length books) m.0 =
+      subst (λ (x : Acted). Bounded d (length pool) (length books) x.0) (sym is)
+      (call_bounded d table.few refl (length pool) (length books) intake c w before) in
+      (after.station_places, λ i. let b = after.each i in (b.booked_most, b.booked_less, b.number_most, b.vote_places))
 
-  reached : Ok tt ≡ admitted d intake w → act d intake c w ≡ whole_call d intake c w
-  unfolding whole_call
-  reached e =
-      let (a, b) = in_order e in
-      let after : Bool → Bool → Acted = λ x y. test x (refused w OutOfRange 0) (test y (refused w WrongLength 0) (act d intake c w)) in
-      ap (after true) (sym b) ∙ ap (λ x. after x (fitting d intake w)) (sym a)
+  pub unadmitted : (c : Call) (e : Fault) → Err e ≡ admitted d intake (world [] pool books) → ◌≡◌ {A = Acted} (w, Err e) (whole_call d intake c w)
+  unfolding whole_call fitting
+  unadmitted c e = one_refuses OutOfRange WrongLength tt w (in_range d) (fitting d intake w) e (act d intake c w)
 
-  module _ {A : Type 0} (fits : Ok tt ≡ admitted d intake w) (ready : Result A Fault) (go : A → Acted) (is : act d intake c w ≡ through ready w go) where
-    pub call_refused : (x : Fault) → Err x ≡ ready → ◌≡◌ {A = Acted} (w, Err x) (whole_call d intake c w)
-    call_refused x e = ap (λ (r : Result A Fault). through r w go) e ∙ sym is ∙ reached fits
+  module _ (fits : Ok tt ≡ admitted d intake (world [] pool books)) where
+    tests : (in_range d ≡ true) × (fitting d intake w ≡ true)
+    unfolding fitting
+    tests = both_hold OutOfRange WrongLength tt (in_range d) (fitting d intake w) fits
 
-    pub call_goes : (y : A) → Ok y ≡ ready → go y ≡ whole_call d intake c w
-    call_goes y e = ap (λ (r : Result A Fault). through r w go) e ∙ sym is ∙ reached fits
+    sized : Sizes d intake w
+    sized = sizes d intake w tests.1
 
--- what a hall keeps of its records, over its terms
-abbrev SteadyIn : Terms → List Station → Type 0
-SteadyIn d l =
-    (length l ≡ 16)
-    × ((i : ℕ) → ((get_or l i no_station).booked ≤ d.batches)
-    × (d.lawful (get_or l i no_station).work ≡ true → (get_or l i no_station).booked < d.batches)
-    × ((get_or l i no_station).number ≤ 20000)
-    × (length (get_or l i no_station).votes ≡ 16))
+    pub intake_long : length intake ≡ d.batches
+    intake_long = sized.intake_size
 
--- every call keeps it
-pub steady_after : (d : Terms) → d.n ≤ 16 → d.lawful no_batch ≡ false → (intake : List Batch) (c : Call) (w : World) (r : Acted)
-    → r ≡ whole_call d intake c w → SteadyIn d w.stations → SteadyIn d r.0.stations
-steady_after d few idle intake c w r is (places, each) =
-    let before : Bounded d (length w.pool) (length w.books) w = record {
-      station_places = places;
-      pool_places = refl;
-      book_places = refl;
-      each = λ i. let (a, b, n, v) = each i in record { booked_most = a; booked_less = b; number_most = n; vote_places = v };
-    } in
-    let after : Bounded d (length w.pool) (length w.books) r.0 =
-    subst (λ (x : Acted). Bounded d (length w.pool) (length w.books) x.0) (sym is) (call_bounded d few idle (length w.pool) (length w.books) intake c w before) in
-    (after.station_places, λ i. let b = after.each i in (b.booked_most, b.booked_less, b.number_most, b.vote_places))
+    reached : (c : Call) → act d intake c w ≡ whole_call d intake c w
+    unfolding whole_call
+    reached c = rw (tests.0, tests.1) refl
 
--- The calls, by the records and the buffers
+    -- a call by its tests and its step
+    module _ {A : Type 0} (c : Call) (ready : Result A Fault) (go : A → Acted) (is : act d intake c w ≡ through ready w go) where
+      call_stops : (e : Fault) → Err e ≡ ready → ◌≡◌ {A = Acted} (w, Err e) (whole_call d intake c w)
+      call_stops e q = ap (λ (x : Result A Fault). through x w go) q ∙ sym is ∙ reached c
 
--- what stands at a place does not hang on the default
-pub any_default : (stations : List Station) (i : ℕ) (s t : Station) → i < length stations → get_or stations i s ≡ get_or stations i t
-any_default stations i s t inside = get_or_default stations i s t inside
+      call_goes : (y : A) → Ok y ≡ ready → go y ≡ whole_call d intake c w
+      call_goes y q = ap (λ (x : Result A Fault). through x w go) q ∙ sym is ∙ reached c
 
--- what every call may count on
-pub record Counted (d : Terms) (stations : List Station) : Type 0 where
-  pub places : length stations ≡ 16
-  pub few : d.n ≤ 16
-  pub quorum : d.t ≤ 7
-  pub each : (i : ℕ) → ((get_or stations i no_station).booked ≤ d.batches)
-      × (d.lawful (get_or stations i no_station).work ≡ true → (get_or stations i no_station).booked < d.batches)
-      × ((get_or stations i no_station).number ≤ 20000)
-      × (length (get_or stations i no_station).votes ≡ 16)
+    -- no such station, or a faulty one
+    module _ (i : ℕ) (e : Fault) (fails : ◌≡◌ {A = Result ℕ Fault} (Err e) (stands d i (Ok i))) where
+      pub open_unknown : ◌≡◌ {A = Acted} (w, Err e) (whole_call d intake (opening i) w)
+      unfolding open_call
+      open_unknown = one_refuses NoStation FaultyStation i w (ltb i d.n) (not (d.faulty i)) e _ fails ∙ reached (opening i)
 
-pub counts : {R P S : Type 0} (r : Rule.Ghosts R) (p : Policy.Ghosts P) (s : Check.Ghosts S) (j : Setup R P S) (stations : List Station)
-    → Steady j.batches stations → Counted (terms r p s j) stations
-counts r p s j stations (places, each) =
-    let table = sound_table j.table.n j.table.t j.table.marks j.table.ok in
-    record { places = places; few = table.few; quorum = table.most; each = each }
+      pub ring_unknown : ◌≡◌ {A = Acted} (w, Err e) (whole_call d intake (ringing i) w)
+      unfolding ring_call
+      ring_unknown = one_refuses NoStation FaultyStation i w (ltb i d.n) (not (d.faulty i)) e _ fails ∙ reached (ringing i)
 
-module _ (d : Terms) (intake : List Batch) (stations : List Station) (pool : List Slot) (books : List Entry)
-    (counted : Counted d stations) (fits : Ok tt ≡ admitted d intake (world [] pool books)) where
-  abbrev hall : World
-  hall = world stations pool books
+      pub deliver_unknown : (place : ℕ) → ◌≡◌ {A = Acted} (w, Err e) (whole_call d intake (delivery i place) w)
+      unfolding deliver_call
+      deliver_unknown place = one_refuses NoStation FaultyStation i w (ltb i d.n) (not (d.faulty i)) e _ fails ∙ reached (delivery i place)
 
-  fits_all : Ok tt ≡ admitted d intake hall
-  fits_all = fits ∙ admits d intake stations pool books
+    -- station i stands, by its number j; it is read before the step, and lent to it
+    module _ (i j : ℕ) (stood : ◌≡◌ {A = Result ℕ Fault} (Ok j) (stands d i (Ok i))) (st : Station) (is : st ≡ get_or h.stations j no_station) where
+      abbrev mine : Station
+      mine = get_or h.stations j no_station
 
-  long : d.n ≤ length stations
-  long = let p = counted.places in let f = counted.few in omega arith
+      abbrev lent : Station
+      lent = get_or h.stations j blank
 
-  sized : Sizes d intake hall
-  sized = sizes d intake hall (in_order d intake (ringing 0) hall fits_all).1
+      same : j ≡ i
+      same =
+          let rest = (passing_ok (ltb i d.n) NoStation (passing (not (d.faulty i)) FaultyStation (Ok i)) j (sym stood)).1 in
+          let one : ◌≡◌ {A = Result ℕ Fault} (Ok i) (Ok j) = (passing_ok (not (d.faulty i)) FaultyStation (Ok i) j rest).1 in
+          cc
 
-  pub intake_long : length intake ≡ d.batches
-  intake_long = sized.intake_size
+      there : ◌≡◌ {A = Result ℕ Fault} (Ok j) (stands d j (Ok j))
+      there = stood ∙ ap (λ x. stands d x (Ok x)) (sym same)
 
-  pub short : d.batches ≤ 1000
-  short = few_batches d (in_order d intake (ringing 0) hall fits_all).0
+      small : j < d.n
+      small = ltb-true j d.n (both_hold NoStation FaultyStation j (ltb j d.n) (not (d.faulty j)) there).0
 
-  module _ (i : ℕ) where
-    abbrev mine : Station
-    mine = get_or stations i no_station
+      long : d.n ≤ length h.stations
+      long = let places = h.steady.0 in let few = table.few in omega arith
 
-    -- a station that is there and has a batch left
-    in_place : (st : Station) → st ≡ mine → i < d.n → mine.booked < d.batches → Placed d i st (length books)
-    in_place st is there left =
-        let placed : Placed d i mine (length books) = record {
-          there = there;
-          few = counted.few;
-          quorum = counted.quorum;
-          short = short;
-          left = left;
-          votes = (counted.each i).3;
-          shape = sized.book_size;
-        } in
-        subst (λ (x : Station). Placed d i x (length books)) (sym is) placed
+      as_lent : lent ≡ mine
+      as_lent = get_or_default h.stations j blank no_station (omega (arith, small, long))
 
-    module _ (st : Station) (is : st ≡ mine) where
+      -- after its station's tests a call's own
+      stood_before : {A : Type 0} (go : Result A Fault) → go ≡ stands d j go
+      stood_before go = sym (both_pass NoStation FaultyStation j (ltb j d.n) (not (d.faulty j)) go there)
+
+      -- a station that has a batch left
+      placed : mine.booked < d.batches → Placed d j mine (length books)
+      placed left = record {
+        there = small;
+        few = table.few;
+        quorum = table.most;
+        short = few_batches d tests.0;
+        left = left;
+        votes = (h.steady.1 j).3;
+        shape = sized.book_size;
+      }
+
+      at_work_placed : d.lawful mine.work ≡ true → Working d j mine (length books)
+      at_work_placed busy = record { placed = placed ((h.steady.1 j).1 busy); busy = busy }
+
+      -- Read
+      pub read_place : (k place : ℕ) → among k st.booked ≡ true → place ≡ j * d.batches + k → place - 1 < length books
+      read_place k place on at =
+          let (low, high) = and_true (leb 1 k) (leb k st.booked) on in
+          let one = leb-true 1 k low in
+          let most = leb-true k st.booked high in
+          let booked = ap (λ (x : Station). x.booked) is in
+          let all = (h.steady.1 j).0 in
+          let inside = in_books j d.n d.batches (k - 1) (length books) small (omega arith) sized.book_size in
+          omega (arith, inside)
+
       -- Open
-      pub open_refused : (x : Fault) → Err x ≡ open_ready d intake i mine pool → ◌≡◌ {A = Acted} (hall, Err x) (whole_call d intake (opening i) hall)
-      open_refused x e = call_refused d intake (opening i) hall fits_all _ _ (open_is d hall long i intake) x e
+      open_split : open_tests d intake st pool ≡ open_ready d intake j mine pool
+      unfolding open_ready
+      open_split = ap (λ (x : Station). open_tests d intake x pool) is ∙ stood_before (open_tests d intake mine pool)
 
-      module _ (next : Batch) (ready : Ok next ≡ open_ready d intake i mine pool) where
-        opened : Opens d intake i mine pool next
-        opened = open_passed d intake i mine pool next (sym ready)
+      pub open_refused : (e : Fault) → Err e ≡ open_tests d intake st pool → ◌≡◌ {A = Acted} (w, Err e) (whole_call d intake (opening i) w)
+      open_refused e q =
+          call_stops (opening j) _ _ (open_is d w long j intake) e (q ∙ open_split) ∙ ap (λ x. whole_call d intake (opening x) w) same
 
-        pub open_place : Placed d i st (length books)
-        open_place = in_place st is opened.small opened.left
+      module _ (next : Batch) (ready : Ok next ≡ open_tests d intake st pool) where
+        opened : Opens d intake j mine pool next
+        opened = open_passed d intake j mine pool next (sym (ready ∙ open_split))
+
+        pub open_placed : Placed d j lent (length books)
+        open_placed = subst (λ (x : Station). Placed d j x (length books)) (sym as_lent) (placed opened.left)
 
         pub open_done : (st₁ : Station) (pool₁ : List Slot) (books₁ : List Entry) (m : Marks)
-            → ◌≡◌ {A = Desk × Marks} (desk st₁ pool₁ books₁, m) (open_on d i next (desk st pool books))
-            → ◌≡◌ {A = Acted} (world (set stations i st₁) pool₁ books₁, Ok m) (whole_call d intake (opening i) hall)
+            → ◌≡◌ {A = Desk × Marks} (desk st₁ pool₁ books₁, m) (open_on d j next (desk lent pool books))
+            → ◌≡◌ {A = Acted} (world (set h.stations j st₁) pool₁ books₁, Ok m) (whole_call d intake (opening i) w)
         open_done st₁ pool₁ books₁ m step =
-            ap (answered i hall) (step ∙ ap (λ (x : Station). open_on d i next (desk x pool books)) is)
-            ∙ call_goes d intake (opening i) hall fits_all _ _ (open_is d hall long i intake) next ready
+            ap (answered j w) (step ∙ ap (λ (x : Station). open_on d j next (desk x pool books)) as_lent)
+            ∙ call_goes (opening j) _ _ (open_is d w long j intake) next (ready ∙ open_split)
+            ∙ ap (λ x. whole_call d intake (opening x) w) same
 
       -- Ring
-      pub ring_refused : (x : Fault) → Err x ≡ ring_ready d i mine pool → ◌≡◌ {A = Acted} (hall, Err x) (whole_call d intake (ringing i) hall)
-      ring_refused x e = call_refused d intake (ringing i) hall fits_all _ _ (ring_is d hall long i) x e
+      ring_split : ring_tests d j st pool ≡ ring_ready d j mine pool
+      unfolding ring_ready
+      ring_split = ap (λ (x : Station). ring_tests d j x pool) is ∙ stood_before (ring_tests d j mine pool)
 
-      module _ (ready : Ok tt ≡ ring_ready d i mine pool) where
-        rung : Rings d i mine pool
-        rung = ring_passed d i mine pool tt (sym ready)
+      pub ring_refused : (e : Fault) → Err e ≡ ring_tests d j st pool → ◌≡◌ {A = Acted} (w, Err e) (whole_call d intake (ringing i) w)
+      ring_refused e q =
+          call_stops (ringing j) _ _ (ring_is d w long j) e (q ∙ ring_split) ∙ ap (λ x. whole_call d intake (ringing x) w) same
 
-        pub ring_moving : Moving d i st (length books)
+      module _ (ready : Ok tt ≡ ring_tests d j st pool) where
+        rung : Rings d j mine pool
+        rung = ring_passed d j mine pool tt (sym (ready ∙ ring_split))
+
+        pub ring_moving : Moving d j lent (length books)
         ring_moving =
-            let placed : Placed d i mine (length books) = in_place mine refl rung.small ((counted.each i).1 rung.busy) in
-            subst (λ (x : Station). Moving d i x (length books)) (sym is)
-            (record { working = record { placed = placed; busy = rung.busy }; low = rung.below })
+            subst (λ (x : Station). Moving d j x (length books)) (sym as_lent) (record { working = at_work_placed rung.busy; low = rung.below })
 
-        pub ring_seat : d.seats st.number i ≡ true
-        ring_seat = ap (λ (x : Station). d.seats x.number i) is ∙ rung.member
+        pub ring_seat : d.seats lent.number j ≡ true
+        ring_seat = ap (λ (x : Station). d.seats x.number j) as_lent ∙ rung.member
 
         pub ring_done : (st₁ : Station) (pool₁ : List Slot) (books₁ : List Entry) (m : Marks)
-            → ◌≡◌ {A = Desk × Marks} (desk st₁ pool₁ books₁, m) (reselect_on d i [] (desk st pool books))
-            → ◌≡◌ {A = Acted} (world (set stations i st₁) pool₁ books₁, Ok m) (whole_call d intake (ringing i) hall)
+            → ◌≡◌ {A = Desk × Marks} (desk st₁ pool₁ books₁, m) (reselect_on d j [] (desk lent pool books))
+            → ◌≡◌ {A = Acted} (world (set h.stations j st₁) pool₁ books₁, Ok m) (whole_call d intake (ringing i) w)
         ring_done st₁ pool₁ books₁ m step =
-            ap (answered i hall) (step ∙ ap (λ (x : Station). reselect_on d i [] (desk x pool books)) is)
-            ∙ call_goes d intake (ringing i) hall fits_all _ _ (ring_is d hall long i) tt ready
+            ap (answered j w) (step ∙ ap (λ (x : Station). reselect_on d j [] (desk x pool books)) as_lent)
+            ∙ call_goes (ringing j) _ _ (ring_is d w long j) tt (ready ∙ ring_split)
+            ∙ ap (λ x. whole_call d intake (ringing x) w) same
 
       -- Deliver
       module _ (place : ℕ) (says : States d.n d.t d.batches (frame_at pool place)) where
-        pub deliver_refused : (x : Fault) → Err x ≡ deliver_ready d i place mine pool → ◌≡◌ {A = Acted} (hall, Err x) (whole_call d intake (delivery i place) hall)
-        deliver_refused x e = call_refused d intake (delivery i place) hall fits_all _ _ (deliver_is d hall long i place counted.quorum says) x e
+        deliver_split : deliver_tests d st place pool ≡ deliver_ready d j place mine pool
+        deliver_split =
+            ap (λ (x : Station). deliver_tests d x place pool) is ∙ stood_before (deliver_tests d mine place pool) ∙ sym (deliver_parts d j mine pool place)
 
-        module _ (f : Frame) (ready : Ok f ≡ deliver_ready d i place mine pool) where
-          taken : Delivers d i place mine pool f
-          taken = deliver_passed d i place mine pool f (sym ready)
+        pub deliver_refused : (e : Fault) → Err e ≡ deliver_tests d st place pool → ◌≡◌ {A = Acted} (w, Err e) (whole_call d intake (delivery i place) w)
+        deliver_refused e q =
+            call_stops (delivery j place) _ _ (deliver_is d w long j place table.most says) e (q ∙ deliver_split)
+            ∙ ap (λ x. whole_call d intake (delivery x place) w) same
 
-          pub deliver_working : Working d i st (length books)
-          deliver_working =
-              let placed : Placed d i mine (length books) = in_place mine refl taken.small ((counted.each i).1 taken.busy) in
-              subst (λ (x : Station). Working d i x (length books)) (sym is) (record { placed = placed; busy = taken.busy })
+        module _ (f : Frame) (ready : Ok f ≡ deliver_tests d st place pool) where
+          taken : Delivers d j place mine pool f
+          taken = deliver_passed d j place mine pool f (sym (ready ∙ deliver_split))
 
-          pub deliver_frame : Delivered d i st place (length pool) f
+          pub deliver_working : Working d j lent (length books)
+          deliver_working = subst (λ (x : Station). Working d j x (length books)) (sym as_lent) (at_work_placed taken.busy)
+
+          pub deliver_frame : Delivered d j lent place (length pool) f
           deliver_frame =
               let sender = taken.sender in
-              let few = counted.few in
+              let few = table.few in
               record {
                 within = taken.inside;
                 sender = omega arith;
                 quorum = taken.quorum;
                 few = taken.one;
-                low = λ kind. let n = taken.next kind in let m = taken.most kind in let s = ap (λ (x : Station). x.number) is in omega arith;
+                low = λ kind. let n = taken.next kind in let m = taken.most kind in let l = ap (λ (x : Station). x.number) as_lent in omega arith;
               }
 
           pub deliver_done : (st₁ : Station) (pool₁ : List Slot) (books₁ : List Entry) (m : Marks)
-              → ◌≡◌ {A = Desk × Marks} (desk st₁ pool₁ books₁, m) (deliver_on d i place f (desk st pool books))
-              → ◌≡◌ {A = Acted} (world (set stations i st₁) pool₁ books₁, Ok m) (whole_call d intake (delivery i place) hall)
+              → ◌≡◌ {A = Desk × Marks} (desk st₁ pool₁ books₁, m) (deliver_on d j place f (desk lent pool books))
+              → ◌≡◌ {A = Acted} (world (set h.stations j st₁) pool₁ books₁, Ok m) (whole_call d intake (delivery i place) w)
           deliver_done st₁ pool₁ books₁ m step =
-              ap (answered i hall) (step ∙ ap (λ (x : Station). deliver_on d i place f (desk x pool books)) is)
-              ∙ call_goes d intake (delivery i place) hall fits_all _ _ (deliver_is d hall long i place counted.quorum says) f ready
+              ap (answered j w) (step ∙ ap (λ (x : Station). deliver_on d j place f (desk x pool books)) as_lent)
+              ∙ call_goes (delivery j place) _ _ (deliver_is d w long j place table.most says) f (ready ∙ deliver_split)
+              ∙ ap (λ x. whole_call d intake (delivery x place) w) same
 
-  -- Inject
-  module _ (line : List ℕ) where
-    pub inject_refused : (x : Fault) → Err x ≡ inject_ready d line pool → ◌≡◌ {A = Acted} (hall, Err x) (whole_call d intake (injection line) hall)
-    inject_refused x e = call_refused d intake (injection line) hall fits_all _ _ (inject_is d counted.quorum hall line) x e
+    -- Inject
+    module _ (line : List ℕ) where
+      pub inject_refused : (e : Fault) → Err e ≡ inject_ready d line pool → ◌≡◌ {A = Acted} (w, Err e) (whole_call d intake (injection line) w)
+      inject_refused e q = call_stops (injection line) _ _ (inject_is d table.most w line) e q
 
-    whole : (bytes : FrameBytes) → take 104 (unpacked bytes) ≡ unpacked bytes
-    whole bytes = take_all 104 (unpacked bytes) (omega (arith, length-take (min bytes.len 104) bytes.bytes))
+      whole : (bytes : FrameBytes) → take 104 (unpacked bytes) ≡ unpacked bytes
+      whole bytes = take_all 104 (unpacked bytes) (omega (arith, length-take (min bytes.len 104) bytes.bytes))
 
-    pub inject_done : (bytes : FrameBytes) (part : List ℕ) (slot : Slot) (pool₁ : List Slot) → Ok bytes ≡ inject_ready d line pool
-        → part ≡ unpacked bytes → slot ≡ slot_of 1 (take 104 part) → pool₁ ≡ enter slot pool
-        → ◌≡◌ {A = Acted} (world stations pool₁ books, Ok (false, false, false)) (whole_call d intake (injection line) hall)
-    inject_done bytes part slot pool₁ ready read held step =
-        ap (λ (p : List Slot). (world stations p books, Ok (false, false, false)))
-        (step ∙ ap (λ (x : Slot). enter x pool) (held ∙ ap (slot_of 1) (ap (take 104) read ∙ whole bytes)))
-        ∙ call_goes d intake (injection line) hall fits_all _ _ (inject_is d counted.quorum hall line) bytes ready
+      pub inject_done : (bytes : FrameBytes) (part : List ℕ) (slot : Slot) (pool₁ : List Slot) → Ok bytes ≡ inject_ready d line pool
+          → part ≡ unpacked bytes → slot ≡ slot_of 1 (take 104 part) → pool₁ ≡ enter slot pool
+          → ◌≡◌ {A = Acted} (world h.stations pool₁ books, Ok (false, false, false)) (whole_call d intake (injection line) w)
+      inject_done bytes part slot pool₁ ready read held step =
+          ap (λ (x : List Slot). (world h.stations x books, Ok (false, false, false)))
+          (step ∙ ap (λ (x : Slot). enter x pool) (held ∙ ap (slot_of 1) (ap (take 104) read ∙ whole bytes)))
+          ∙ call_goes (injection line) _ _ (inject_is d table.most w line) bytes ready

@@ -1,15 +1,20 @@
 -- What the tests of every call answer.
-use Rattle.std.specs.Prelude.{ℕ, ◌+◌, Bool, true, not, List, Ok, Err, Result, nat_le}
+use Rattle.std.specs.Prelude.{ℕ, ◌+◌, Bool, true, not, List, replicate, Ok, Err, Result, nat_le}
 use Rattle.base.specs.declared.book.Batch.{Batch}
 use Rattle.base.specs.declared.book.Entry.{Entry}
 use Rattle.base.specs.declared.fault.Fault.{Fault}
 use Rattle.base.specs.declared.refusal.Refusal.TheVariants.{OutOfRange, WrongLength}
+use Rattle.frames.specs.declared.frame.Frame.{Frame}
+use Rattle.frames.specs.declared.frame.Kind.{Kind}
+use Rattle.frames.specs.declared.frame.Pairs.{Pairs}
+use Rattle.frames.specs.declared.frame.Pair.{Pair}
 use Rattle.frames.specs.declared.slot.Slot.{Slot}
 use Rattle.frames.specs.Frames.{◌and◌}
 use Rattle.protocol.specs.declared.station.Station.{Station}
 use Rattle.protocol.specs.Law.{Terms}
-use Rattle.protocol.specs.Steps.{World, in_range, fitting, passing}
+use Rattle.protocol.specs.Steps.{World, in_range, fitting, passing, no_entry}
 use Rattle.protocol.specs.Desk.{Desk}
+use Rattle.hall.specs.declared.standing.Standing.{Standing}
 
 abbrev pub world : List Station → List Slot → List Entry → World
 world stations pool books = record { stations = stations; pool = pool; books = books }
@@ -36,3 +41,17 @@ called_upon seats i c proposed = seats (c + 1) i and not proposed
 -- a slot whose frame is taken
 abbrev pub taken_slot : Slot → Slot
 taken_slot s = record { len = s.len; bytes = s.bytes; by = s.by; taken = true }
+
+-- the number of a station that stands
+abbrev pub number_of : Standing → ℕ
+number_of s = s.i
+
+abbrev pub no_pair : Pair
+no_pair = record { station = 0; tag = 0 }
+
+abbrev pub no_pairs : Pairs
+no_pairs = record { count = 0; each = replicate 8 no_pair }
+
+-- a frame that says nothing but who sends it, and in which batch
+abbrev pub draft : Kind → ℕ → ℕ → Frame
+draft kind i batch = record { kind = kind; sender = i; batch = batch; number = 0; entry = no_entry; tag = 0; pairs = no_pairs }

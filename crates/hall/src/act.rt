@@ -10,6 +10,7 @@ ghost use Rattle.hall.specs.Called.{desk, taken_slot};
 ghost use Rattle.hall.specs.Working.{Placed, Working, Delivered};
 
 use crate::setup::Setup;
+use crate::standing::Standing;
 use base::book::{Batch, Entry};
 use evidence::tags::shown;
 use frames::frame::{Frame, Kind};
@@ -24,10 +25,11 @@ use seals::seal::Sealing;
 fn begin(st: &mut Station, batch: Batch)
     ensures { st.new ≡ begun batch st.old }
 {
-    st.work = batch;
-    st.number = 0;
-    st.proposed = false;
-    st.votes = [None; 16];
+    *st = Station {
+        booked: st.booked,
+        work: batch,
+        ..Station::default()
+    };
 }
 
 // Frame f is taken.
@@ -40,38 +42,40 @@ fn mark(pool: &mut [Slot], f: u32)
 
 impl<R: Rule, P: Policy, S: Sealing> Setup<R, P, S> {
     // The next batch is taken up; a member of committee 0 proposes.
+    #[tactic(auto, unfolding(protocol::specs::Ready::open_on))]
     pub(crate) fn open_on(
         &self,
-        i: u32,
+        who: Standing,
         batch: Checked,
         st: &mut Station,
         pool: &mut [Slot],
         books: &[Entry],
     ) -> (bool, bool, bool)
-        requires { Placed (terms R.Rule P.Policy S.Check self.now) i st.old (length books.now) }
-        ensures { (desk st.new pool.new books.now, result) ≡ open_on (terms R.Rule P.Policy S.Check self.now) i (plain batch) (desk st.old pool.old books.now) }
+        requires { Placed (terms R.Rule P.Policy S.Check self.now) who.i st.old (length books.now) }
+        ensures { (desk st.new pool.new books.now, result) ≡ open_on (terms R.Rule P.Policy S.Check self.now) who.i (plain batch) (desk st.old pool.old books.now) }
     {
         begin(st, batch.batch());
-        if !self.policy.seated(0, i) {
+        if !self.policy.seated(0, who.i) {
             return (false, false, false);
         }
-        self.propose_on(i, st, pool, books);
+        self.propose_on(who, st, pool, books);
         (false, true, false)
     }
 
     // A frame is taken.
+    #[tactic(auto, unfolding(protocol::specs::Ready::deliver_on, protocol::specs::Ready::marked_taken))]
     pub(crate) fn deliver_on(
         &self,
-        i: u32,
+        who: Standing,
         f: u32,
         frame: &Frame,
         st: &mut Station,
         pool: &mut [Slot],
         books: &mut [Entry],
     ) -> (bool, bool, bool)
-        requires working { Working (terms R.Rule P.Policy S.Check self.now) i st.old (length books.old) }
-        requires frame { Delivered (terms R.Rule P.Policy S.Check self.now) i st.old f (length pool.old) frame.now }
-        ensures { (desk st.new pool.new books.new, result) ≡ deliver_on (terms R.Rule P.Policy S.Check self.now) i f frame.now (desk st.old pool.old books.old) }
+        requires working { Working (terms R.Rule P.Policy S.Check self.now) who.i st.old (length books.old) }
+        requires frame { Delivered (terms R.Rule P.Policy S.Check self.now) who.i st.old f (length pool.old) frame.now }
+        ensures { (desk st.new pool.new books.new, result) ≡ deliver_on (terms R.Rule P.Policy S.Check self.now) who.i f frame.now (desk st.old pool.old books.old) }
     {
         mark(pool, f);
         match frame.kind {
@@ -80,13 +84,13 @@ impl<R: Rule, P: Policy, S: Sealing> Setup<R, P, S> {
                     entry: frame.entry,
                     tag: frame.tag,
                 };
-                self.vote_on(i, frame.sender, vote, st, pool, books)
+                self.vote_on(who, frame.sender, vote, st, pool, books)
             }
             Kind::Decision => {
-                self.decide_on(i, frame.entry, frame.pairs, st, pool, books);
+                self.decide_on(who, frame.entry, frame.pairs, st, pool, books);
                 (false, false, true)
             }
-            Kind::Reselect => self.reselect_on(i, shown(frame), st, pool, books),
+            Kind::Reselect => self.reselect_on(who, shown(frame), st, pool, books),
         }
     }
 }

@@ -5,5 +5,6 @@ mod act;
 mod admit;
 mod ready;
 pub mod setup;
+mod standing;
 pub mod state;
 mod step;

@@ -6,6 +6,7 @@ ghost use Rattle.hall.specs.Join.{terms};
 ghost use Rattle.hall.specs.Called.{world};
 
 use super::Hall;
+use crate::ready::record_at;
 use base::book::{Batch, Entry};
 use base::fault::Fault;
 use frames::slot::Slot;
@@ -26,8 +27,10 @@ impl<R: Rule, P: Policy, S: Sealing> Hall<R, P, S> {
         ensures call { (world self.new.stations pool.new books.new, result) ≡ whole_call (terms R.Rule P.Policy S.Check self.old.setup) intake.now (delivery i f) (world self.old.stations pool.old books.old) }
     {
         self.setup.admit(intake, pool, books)?;
-        let frame = self.setup.deliver_ready(i, f, &self.stations, pool)?;
-        let st = &mut self.stations[i as usize];
-        Ok(self.setup.deliver_on(i, f, &frame, st, pool, books))
+        let who = self.setup.stands(i)?;
+        let st = record_at(&self.stations, who);
+        let frame = self.setup.deliver_ready(st, f, pool)?;
+        let st = &mut self.stations[who.i as usize];
+        Ok(self.setup.deliver_on(who, f, &frame, st, pool, books))
     }
 }

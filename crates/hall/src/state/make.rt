@@ -6,7 +6,6 @@ ghost use Rattle.hall.specs.Join.{terms, joined};
 
 use super::Hall;
 use crate::setup::Setup;
-use base::book::Batch;
 use policies::policy::Policy;
 use policies::table::Locked;
 use protocol::station::Station;
@@ -36,20 +35,9 @@ impl<R: Rule, P: Policy, S: Sealing> Hall<R, P, S> {
             batches,
             slots,
         };
-        let idle = Station {
-            booked: 0,
-            work: Batch {
-                grower: 0,
-                fruit: 0,
-                oil: 0,
-            },
-            number: 0,
-            proposed: false,
-            votes: [None; 16],
-        };
         Hall {
             setup,
-            stations: [idle; 16],
+            stations: [Station::default(); 16],
         }
     }
 }

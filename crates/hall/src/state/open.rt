@@ -6,6 +6,7 @@ ghost use Rattle.hall.specs.Join.{terms};
 ghost use Rattle.hall.specs.Called.{world};
 
 use super::Hall;
+use crate::ready::record_at;
 use base::book::{Batch, Entry};
 use base::fault::Fault;
 use frames::slot::Slot;
@@ -25,8 +26,10 @@ impl<R: Rule, P: Policy, S: Sealing> Hall<R, P, S> {
         ensures call { (world self.new.stations pool.new books.now, result) ≡ whole_call (terms R.Rule P.Policy S.Check self.old.setup) intake.now (opening i) (world self.old.stations pool.old books.now) }
     {
         self.setup.admit(intake, pool, books)?;
-        let batch = self.setup.open_ready(i, intake, &self.stations, pool)?;
-        let st = &mut self.stations[i as usize];
-        Ok(self.setup.open_on(i, batch, st, pool, books))
+        let who = self.setup.stands(i)?;
+        let st = record_at(&self.stations, who);
+        let batch = self.setup.open_ready(st, intake, pool)?;
+        let st = &mut self.stations[who.i as usize];
+        Ok(self.setup.open_on(who, batch, st, pool, books))
     }
 }

@@ -5,7 +5,7 @@ ghost use Rattle.hall.specs.Join.{terms};
 ghost use Rattle.hall.specs.Called.{world, among};
 
 use super::Hall;
-use crate::ready::record_at;
+use crate::ready::{ensure, record_at};
 use base::book::{Batch, Entry};
 use base::fault::Fault;
 use base::refusal::Refusal;
@@ -18,11 +18,12 @@ use seals::seal::Sealing;
 fn is_booked(k: u32, booked: u32) -> bool
     ensures { result ≡ among k booked }
 {
-    1 <= k && k <= booked
+    (1..=booked).contains(&k)
 }
 
 impl<R: Rule, P: Policy, S: Sealing> Hall<R, P, S> {
     // Entry k of station i, counted from 1.
+    #[tactic(auto, unfolding(protocol::specs::Steps::read_call, protocol::specs::Steps::fitting))]
     pub fn read(
         &self,
         i: u32,
@@ -34,10 +35,9 @@ impl<R: Rule, P: Policy, S: Sealing> Hall<R, P, S> {
         ensures { result ≡ read_call (terms R.Rule P.Policy S.Check self.now.setup) intake.now i k (world self.now.stations pool.now books.now) }
     {
         self.setup.admit(intake, pool, books)?;
-        self.setup.stands(i)?;
-        if !is_booked(k, record_at(&self.stations, i).booked) {
-            return Err(Fault::new(Refusal::NotBooked, 0));
-        }
-        Ok(books[i as usize * self.setup.batches as usize + k as usize - 1])
+        let who = self.setup.stands(i)?;
+        let booked = record_at(&self.stations, who).booked;
+        ensure(is_booked(k, booked), Refusal::NotBooked)?;
+        Ok(books[self.setup.book_place(who, k) - 1])
     }
 }

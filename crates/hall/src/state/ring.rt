@@ -6,9 +6,10 @@ ghost use Rattle.hall.specs.Join.{terms};
 ghost use Rattle.hall.specs.Called.{world};
 
 use super::Hall;
-use crate::step::NO_PAIRS;
+use crate::ready::record_at;
 use base::book::{Batch, Entry};
 use base::fault::Fault;
+use frames::frame::Pairs;
 use frames::slot::Slot;
 use policies::policy::Policy;
 use rules::rule::Rule;
@@ -26,8 +27,13 @@ impl<R: Rule, P: Policy, S: Sealing> Hall<R, P, S> {
         ensures call { (world self.new.stations pool.new books.new, result) ≡ whole_call (terms R.Rule P.Policy S.Check self.old.setup) intake.now (ringing i) (world self.old.stations pool.old books.old) }
     {
         self.setup.admit(intake, pool, books)?;
-        self.setup.ring_ready(i, &self.stations, pool)?;
-        let st = &mut self.stations[i as usize];
-        Ok(self.setup.reselect_on(i, NO_PAIRS, st, pool, books))
+        let who = self.setup.stands(i)?;
+        let st = record_at(&self.stations, who);
+        self.setup.ring_ready(who, st, pool)?;
+        let st = &mut self.stations[who.i as usize];
+        Ok(
+            self.setup
+                .reselect_on(who, Pairs::default(), st, pool, books),
+        )
     }
 }

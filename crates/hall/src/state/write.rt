@@ -5,7 +5,7 @@ ghost use Rattle.hall.specs.Join.{terms};
 ghost use Rattle.hall.specs.Called.{world};
 
 use super::Hall;
-use crate::ready::frame_in;
+use crate::ready::{ensure, frame_in};
 use base::book::{Batch, Entry};
 use base::fault::Fault;
 use base::refusal::Refusal;
@@ -17,6 +17,7 @@ use seals::seal::Sealing;
 
 impl<R: Rule, P: Policy, S: Sealing> Hall<R, P, S> {
     // Fills the buffer with frame f as a line and answers its length; bytes behind it stay.
+    #[tactic(auto, unfolding(protocol::specs::Steps::write_call, protocol::specs::Steps::fitting))]
     pub fn write(
         &self,
         f: u32,
@@ -29,9 +30,7 @@ impl<R: Rule, P: Policy, S: Sealing> Hall<R, P, S> {
     {
         self.setup.admit(intake, pool, books)?;
         let frame = frame_in(pool, f);
-        if frame.is_empty() {
-            return Err(Fault::new(Refusal::NoFrame, 0));
-        }
+        ensure(!frame.is_empty(), Refusal::NoFrame)?;
         write_line(frame, buffer)
     }
 }

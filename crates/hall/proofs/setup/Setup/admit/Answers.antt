@@ -1,7 +1,7 @@
-use Rattle.std.proofs.Common.{sym, arith, rules}
-use Rattle.protocol.specs.Steps.{fitting}
+use Rattle.std.proofs.Common.{sym, ◌∙◌, arith}
 use Rattle.hall.specs.Join.{terms}
 use Rattle.hall.proofs.Lawful.{sound_table}
+use Rattle.protocol.proofs.Passed.{passing_ok}
 use Rattle.hall.proofs.Ranges.{few_batches, entries_fit}
 use Rattle.hall.proofs.setup.Setup.admit.Goals as goal
 
@@ -10,14 +10,8 @@ overflow_mul-entries g c =
     let j = c.args.self.now in
     let table = sound_table j.table.n j.table.t j.table.marks j.table.ok in
     let few = table.few in
-    let short = few_batches (terms g.R.Rule g.P.Policy g.S.Check j) (sym c.if-not-in_range.ensures) in
+    let d = terms g.R.Rule g.P.Policy g.S.Check j in
+    let held = c.in_range.ensures in
+    let short = few_batches d (sym held ∙ (passing_ok _ _ _ _ (sym c.in_ok-ensure.ensures)).0) in
     let n = c.stations.ensures in
     omega (arith, entries_fit c.stations.result j.batches (omega arith) short)
-
-pub returns-then-intake-self : goal.returns-then-intake-self
-unfolding fitting
-returns-then-intake-self g c = search rules
-
-pub returns : goal.returns
-unfolding fitting
-returns g c = search rules

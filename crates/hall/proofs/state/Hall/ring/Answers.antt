@@ -1,91 +1,42 @@
-use Rattle.std.proofs.Common.{◌<◌, false, [], length, get_or, refl, ◌∙◌, arith, rules}
+use Rattle.std.proofs.Common.{rules}
 use Rattle.std.proofs.lemmas.Bool.{both_ways}
-use Rattle.protocol.specs.declared.station.Station.{Station}
 use Rattle.protocol.specs.Law.{ringing}
-use Rattle.protocol.specs.Steps.{no_batch, no_station}
-use Rattle.hall.specs.Called.{world}
-use Rattle.hall.specs.Join.{terms}
-use Rattle.hall.proofs.Whole.{admits, not_admitted, steady_after, any_default, counts, ring_refused, ring_moving, ring_seat, ring_done}
+use Rattle.hall.proofs.Defaults.{unpaired}
+use Rattle.hall.proofs.Whole.{kept, unadmitted, ring_unknown, ring_refused, ring_done, ring_moving, ring_seat}
 use Rattle.hall.proofs.state.Hall.ring.Goals as goal
 
-pub returns-in_err-admit : goal.returns-in_err-admit
-returns-in_err-admit g c =
+pub returns-in_err-admit-clause-call : goal.returns-in_err-admit-clause-call
+returns-in_err-admit-clause-call g c =
     let a = c.args in
-    let d = (terms g.R.Rule g.P.Policy g.S.Check a.self.now.setup) in
-    let e = not_admitted d a.intake.now (ringing a.i) (world a.self.now.stations a.pool.now a.books.now) c.in_err-admit.field-0.0
-    (c.in_err-admit.ensures.same ∙ admits d a.intake.now a.self.now.stations a.pool.now a.books.now) in
-    record { setup = refl; call = search rules }
+    let e = unadmitted g.R.Rule g.P.Policy g.S.Check a.self.now a.intake.now a.pool.now a.books.now (ringing a.i) c.in_err-admit.field-0.0 c.in_err-admit.ensures.same in
+    search rules
 
-pub returns-in_err-ring_ready : goal.returns-in_err-ring_ready
-returns-in_err-ring_ready g c =
+pub returns-in_err-who-clause-call : goal.returns-in_err-who-clause-call
+returns-in_err-who-clause-call g c =
     let a = c.args in
-    let d = (terms g.R.Rule g.P.Policy g.S.Check a.self.now.setup) in
-    let k = (counts g.R.Rule g.P.Policy g.S.Check a.self.now.setup a.self.now.stations a.self.now.steady) in
-    let f = c.in_ok-admit.ensures.same in
-    let e = ring_refused d a.intake.now a.self.now.stations a.pool.now a.books.now k f a.i (get_or a.self.now.stations a.i no_station) refl c.in_err-ring_ready.field-0.0 c.in_err-ring_ready.ensures in
-    record { setup = refl; call = search rules }
+    let e = ring_unknown g.R.Rule g.P.Policy g.S.Check a.self.now a.intake.now a.pool.now a.books.now c.in_ok-admit.ensures.same a.i c.in_err-who.field-0.0 c.in_err-who.ensures in
+    search rules
 
-pub bounds-self-i : goal.bounds-self-i
-bounds-self-i g c =
+pub returns-in_err-ring_ready-clause-call : goal.returns-in_err-ring_ready-clause-call
+returns-in_err-ring_ready-clause-call g c =
     let a = c.args in
-    let d = (terms g.R.Rule g.P.Policy g.S.Check a.self.now.setup) in
-    let k = (counts g.R.Rule g.P.Policy g.S.Check a.self.now.setup a.self.now.stations a.self.now.steady) in
-    let f = c.in_ok-admit.ensures.same in
-    let near = (ring_moving d a.intake.now a.self.now.stations a.pool.now a.books.now k f a.i (get_or a.self.now.stations a.i no_station) refl c.in_ok-ring_ready.ensures).working.placed in
-    let there = near.there in
-    let few = near.few in
-    omega arith
+    let e = ring_refused g.R.Rule g.P.Policy g.S.Check a.self.now a.intake.now a.pool.now a.books.now c.in_ok-admit.ensures.same a.i c.in_ok-who.who.i c.in_ok-who.ensures c.record_at-st.result.now c.record_at-st.ensures c.in_err-ring_ready.field-0.0 c.in_err-ring_ready.ensures in
+    search rules
 
 pub reselect_on-requires : goal.reselect_on-requires
 reselect_on-requires g c =
     let a = c.args in
-    let d = (terms g.R.Rule g.P.Policy g.S.Check a.self.now.setup) in
-    let k = (counts g.R.Rule g.P.Policy g.S.Check a.self.now.setup a.self.now.stations a.self.now.steady) in
-    let f = c.in_ok-admit.ensures.same in
-    let nil : Station = (record { booked = 0; work = no_batch; number = 0; proposed = false; votes = [] }) in
-    let near = (ring_moving d a.intake.now a.self.now.stations a.pool.now a.books.now k f a.i (get_or a.self.now.stations a.i no_station) refl c.in_ok-ring_ready.ensures).working.placed in
-    let there = near.there in
-    let few = near.few in
-    let places = k.places in
-    let inside : a.i < length a.self.now.stations = omega arith in
-    let is = any_default a.self.now.stations a.i nil no_station inside in
     record {
-      moving = ring_moving d a.intake.now a.self.now.stations a.pool.now a.books.now k f a.i (get_or a.self.now.stations a.i nil) is c.in_ok-ring_ready.ensures;
-      shown = λ off. absurd (both_ways _ off (ring_seat d a.intake.now a.self.now.stations a.pool.now a.books.now k f a.i (get_or a.self.now.stations a.i nil) is c.in_ok-ring_ready.ensures));
+      moving = ring_moving g.R.Rule g.P.Policy g.S.Check a.self.now a.intake.now a.pool.now a.books.now c.in_ok-admit.ensures.same a.i c.in_ok-who.who.i c.in_ok-who.ensures c.record_at-st.result.now c.record_at-st.ensures c.in_ok-ring_ready.ensures;
+      shown = λ off. absurd (both_ways _ off (ring_seat g.R.Rule g.P.Policy g.S.Check a.self.now a.intake.now a.pool.now a.books.now c.in_ok-admit.ensures.same a.i c.in_ok-who.who.i c.in_ok-who.ensures c.record_at-st.result.now c.record_at-st.ensures c.in_ok-ring_ready.ensures));
     }
 
 pub invariant_of-self-2 : goal.invariant_of-self-2
 invariant_of-self-2 g c =
     let a = c.args in
-    let d = (terms g.R.Rule g.P.Policy g.S.Check a.self.now.setup) in
-    let k = (counts g.R.Rule g.P.Policy g.S.Check a.self.now.setup a.self.now.stations a.self.now.steady) in
-    let f = c.in_ok-admit.ensures.same in
-    let nil : Station = (record { booked = 0; work = no_batch; number = 0; proposed = false; votes = [] }) in
-    let near = (ring_moving d a.intake.now a.self.now.stations a.pool.now a.books.now k f a.i (get_or a.self.now.stations a.i no_station) refl c.in_ok-ring_ready.ensures).working.placed in
-    let there = near.there in
-    let few = near.few in
-    let places = k.places in
-    let inside : a.i < length a.self.now.stations = omega arith in
-    let is = any_default a.self.now.stations a.i nil no_station inside in
-    record {
-      steady = steady_after d few refl a.intake.now (ringing a.i) (world a.self.now.stations a.pool.now a.books.now) _
-          (ring_done d a.intake.now a.self.now.stations a.pool.now a.books.now k f a.i (get_or a.self.now.stations a.i nil) is c.in_ok-ring_ready.ensures _ _ _ _ c.reselect_on.ensures) a.self.now.steady;
-    }
+    record { steady = kept g.R.Rule g.P.Policy g.S.Check a.self.now a.intake.now a.pool.now a.books.now (ringing a.i) _ (ring_done g.R.Rule g.P.Policy g.S.Check a.self.now a.intake.now a.pool.now a.books.now c.in_ok-admit.ensures.same a.i c.in_ok-who.who.i c.in_ok-who.ensures c.record_at-st.result.now c.record_at-st.ensures c.in_ok-ring_ready.ensures _ _ _ _ (rw (unpaired c.default.result c.default.ensures.0) at c.reselect_on.ensures)) }
 
-pub returns : goal.returns
-returns g c =
+pub returns-clause-call : goal.returns-clause-call
+returns-clause-call g c =
     let a = c.args in
-    let d = (terms g.R.Rule g.P.Policy g.S.Check a.self.now.setup) in
-    let k = (counts g.R.Rule g.P.Policy g.S.Check a.self.now.setup a.self.now.stations a.self.now.steady) in
-    let f = c.in_ok-admit.ensures.same in
-    let nil : Station = (record { booked = 0; work = no_batch; number = 0; proposed = false; votes = [] }) in
-    let near = (ring_moving d a.intake.now a.self.now.stations a.pool.now a.books.now k f a.i (get_or a.self.now.stations a.i no_station) refl c.in_ok-ring_ready.ensures).working.placed in
-    let there = near.there in
-    let few = near.few in
-    let places = k.places in
-    let inside : a.i < length a.self.now.stations = omega arith in
-    let is = any_default a.self.now.stations a.i nil no_station inside in
-    record {
-      setup = refl;
-      call = ring_done d a.intake.now a.self.now.stations a.pool.now a.books.now k f a.i (get_or a.self.now.stations a.i nil) is c.in_ok-ring_ready.ensures _ _ _ _ c.reselect_on.ensures;
-    }
+    ring_done g.R.Rule g.P.Policy g.S.Check a.self.now a.intake.now a.pool.now a.books.now c.in_ok-admit.ensures.same a.i c.in_ok-who.who.i c.in_ok-who.ensures c.record_at-st.result.now c.record_at-st.ensures c.in_ok-ring_ready.ensures _ _ _ _ (rw (unpaired c.default.result c.default.ensures.0) at c.reselect_on.ensures)
