@@ -1,5 +1,5 @@
 -- A number of a script is what the library reads of digits without a sign.
-use Rattle.std.proofs.Common.{rules, ◌≡◌, ◌≢◌, ℕ, ◌^◌, ◌<◌, ◌≤◌, Bool, true, false, cond, ◌&&◌, leb, List, length, get_or, Some, None, Ok, Err, Option, Result, refl, ap, ◌∙◌, arith}
+use Rattle.std.proofs.Common.{rules, ◌≡◌, ◌≢◌, ℕ, ◌^◌, ◌<◌, Bool, true, false, cond, ◌&&◌, leb, List, length, get_or, Some, None, Ok, Err, Option, Result, refl, arith}
 use Rattle.std.proofs.lemmas.Bool.{le-leb, leb-true}
 use Rattle.std.proofs.lemmas.Fmt.{IsAscii-from_digits}
 use Rattle.std.proofs.lemmas.Str.{IsUtf8-from_ascii}
@@ -22,12 +22,6 @@ refused true true false o f = refl
 refused true false c o f = refl
 refused false b c o f = refl
 
-taken : (a b c : Bool) (o : Option ℕ) → b ≡ true → a ≡ true → c ≡ true → cond a (cond (b && c) o None) None ≡ o
-taken true true true o p q r = refl
-taken true true false o p q r = search rules
-taken true false c o p q r = search rules
-taken false b c o p q r = search rules
-
 module _ (w : List ℕ) where
   abbrev v : ℕ
   v = value_behind 0 w
@@ -36,7 +30,7 @@ module _ (w : List ℕ) where
   garbled h = search (rules, refused (leb 1 (length w)) (all_digits w) (leb v 4294967295) (Some v) (λ d some small. h (IsUtf8-from_ascii w (IsAscii-from_digits w (own.to w d)))))
 
   told : {E : Type 0} (r : Result ℕ E) → OkIff r (Digits w × (0 < length w) × (v < 2 ^ 32)) v → result_ok r ≡ number_of w
-  told (Ok x) h = search (rules, taken (leb 1 (length w)) (all_digits w) (leb v 4294967295) (Some v) h.0.0 (le-leb 1 (length w) h.0.1) (le-leb v 4294967295 (omega (arith, h.0.2))), h.1)
+  told (Ok x) h = rw (le-leb 1 (length w) h.0.1, h.0.0, le-leb v 4294967295 (omega (arith, h.0.2)), h.1) refl
   told (Err e) h = search (rules, refused (leb 1 (length w)) (all_digits w) (leb v 4294967295) (Some v) (λ d some small. h (d, leb-true 1 (length w) some, omega (arith, leb-true v 4294967295 small))))
 
   pub number_read : {E : Type 0} (r : Result ℕ E) → ParsesUnsigned 32 10 w r → get_or w 0 0 ≢ 43 → result_ok r ≡ number_of w

@@ -1,14 +1,16 @@
 -- What the console prints of an answer.
-use Rattle.std.specs.Prelude.{ℕ, cond, List, [], ◌++◌, length, Some, None, Option, codes}
+use Rattle.std.specs.Prelude.{ℕ, ◌+◌, cond, List, [], ◌∷◌, ◌++◌, length, Some, None, Option, codes}
 use Rattle.std.specs.Fmt.{decimal}
 use Rattle.std.specs.List.{flat_map}
 use Rattle.std.proofs.Math.Utf8.{encode}
+use Rattle.base.specs.declared.book.Entry.{Entry}
 use Rattle.base.specs.Shown.{fault_text, entry_text}
 use Rattle.frames.specs.Shown.{tag_text, frame_text, slot_text}
 use Rattle.console.specs.declared.trouble.Mistake.{Mistake}
 use Rattle.console.specs.declared.trouble.Mistake.TheVariants.{LineTooLong, UnknownCommand, WrongWords, NumberTooLarge, NoOpenTable, NoLockedTable, NoRule, NoPolicy, NoSeal, NoBatches, NoHall, NoSlot}
 use Rattle.console.specs.declared.trouble.Trouble.{Trouble}
 use Rattle.console.specs.declared.trouble.Trouble.TheVariants.{Mistake as Mistaken, Refused, OutOfMemory}
+use Rattle.console.specs.declared.reply.Book.{Book}
 use Rattle.console.specs.declared.reply.Seats.{Seats}
 use Rattle.console.specs.declared.reply.Marks.{Marks}
 use Rattle.console.specs.declared.reply.Digits.{Digits}
@@ -34,6 +36,17 @@ abbrev pub trouble_text : Trouble → Option (List ℕ)
 trouble_text (Mistaken m) = Some (codes "error (" ++ mistake_text m ++ codes ")")
 trouble_text (Refused x) = Some (fault_text x)
 trouble_text (OutOfMemory e) = None
+
+abbrev pub entry_line : ℕ → Entry → List ℕ
+entry_line k e = codes "entry " ++ decimal k ++ codes " " ++ entry_text e ++ codes "\n"
+
+-- a line for each entry, numbered from k on
+abbrev pub lines_from : ℕ → List Entry → List ℕ
+lines_from k [] = []
+lines_from k (e ∷ es) = entry_line k e ++ lines_from (k + 1) es
+
+abbrev pub book_text : Book → List ℕ
+book_text b = lines_from 1 b.0.items
 
 -- each behind a blank
 abbrev pub seats_text : Seats → List ℕ

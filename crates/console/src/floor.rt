@@ -23,6 +23,7 @@ pub struct Floor {
     books: Vec<Entry>,
 }
 
+// A free slot: one that holds no byte.
 fn empty_slot() -> Slot {
     Slot::holding(&[], 0)
 }
@@ -58,6 +59,7 @@ impl Floor {
         Ok(Reply::Done)
     }
 
+    // One helper for the four calls would take closures that borrow parts of the floor: no plainer.
     pub(super) fn open(&mut self, i: u32) -> Result<Reply, Trouble> {
         let marks = self
             .hall

@@ -19,7 +19,7 @@ const LONGEST: usize = 70_000;
 // How much of the input is read at a time.
 const PIECE: usize = 65_536;
 
-// The next line, without its line feed. Of one that is too long, one byte more than is shown is kept.
+// The next line without its line feed; of one too long, one byte more than is shown is kept.
 fn next_line<'a>(
     input: &mut BufReader<Stdin>,
     line: &'a mut Vec<u8>,

@@ -1,6 +1,6 @@
 // What a command is answered.
 ghost use Rattle.std.specs.Prelude.{Some};
-ghost use Rattle.console.specs.Shown.{seats_text, marks_text, digits_text, reply_text};
+ghost use Rattle.console.specs.Shown.{book_text, seats_text, marks_text, digits_text, reply_text};
 
 use base::book::Entry;
 use frames::frame::Frame;
@@ -63,6 +63,8 @@ impl fmt::Display for Reply {
 
 // A line for each entry.
 impl fmt::Display for Book {
+    ghost output = { λ b. Some (book_text b) };
+
     fn fmt<W: fmt::Write>(&self, f: &mut fmt::Formatter<W>) -> fmt::Result {
         for (k, entry) in self.0.iter().enumerate() {
             let number = k + 1;

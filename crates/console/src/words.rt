@@ -88,10 +88,10 @@ impl<'a> Words<'a> {
 }
 
 // The number that decimal digits stand for, if it is of 32 bits.
-fn number(word: &[u8]) -> Option<u32>
+pub fn number(word: &[u8]) -> Option<u32>
     ensures { result ≡ number_of word.now }
 {
-    // the library takes a sign
+    // the library would read a sign
     if word.starts_with(b"+") {
         return None;
     }
