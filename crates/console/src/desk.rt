@@ -19,7 +19,7 @@ use seals::any::AnySeal;
 use seals::keyed::Keyed;
 use seals::seal::Sealing;
 use seals::sheet::Sheet;
-use std::alloc::{AllocError, Global};
+use std::alloc::Global;
 
 // The most batches or slots of a hall, and the most elements of a buffer, that a script may ask for.
 const MOST_MADE: u32 = 100_000;
@@ -256,7 +256,7 @@ impl Desk {
         let policy = self.policy.ok_or(Mistake::NoPolicy)?;
         let seal = self.seal.as_ref().ok_or(Mistake::NoSeal)?;
         let entries = table.stations() as usize * batches as usize;
-        let seal = copy(self.heap, seal)?;
+        let seal = seal.clone()?;
         let hall = Hall::make(table.twin(), rule, policy, seal, batches, slots);
         let intake = self.intake.to_vec(self.heap)?;
         let floor = Floor::new(self.heap, hall, intake, slots as usize, entries)?;
@@ -309,15 +309,4 @@ fn sheet(heap: Global, words: &mut Words) -> Result<AnySeal, Trouble> {
     }
     words.end()?;
     Ok(AnySeal::BySheet(Sheet { words: sheet }))
-}
-
-// A seal of the same keys or words, by hand since a seal has no `Clone`.
-fn copy(heap: Global, seal: &AnySeal) -> Result<AnySeal, AllocError> {
-    Ok(match seal {
-        AnySeal::ByKeys(keyed) => AnySeal::ByKeys(*keyed),
-        AnySeal::BySheet(sheet) => {
-            let words = sheet.words.to_vec(heap)?;
-            AnySeal::BySheet(Sheet { words })
-        }
-    })
 }

@@ -9,6 +9,9 @@ use rules::batch::Checked;
 use rules::levy::Levy;
 use rules::oil::Oil;
 use rules::rule::{Outcome, Rule};
+use seals::any::AnySeal;
+use seals::seal::Sealing;
+use seals::sheet::Sheet;
 use std::test::Fail;
 
 fn given<R: Rule>(rule: &R, carry: u32, grower: u32, fruit: u32, oil: u32) -> Option<Outcome> {
@@ -77,5 +80,14 @@ fn refusals(rt: HostRuntime) -> Result<(), Fail> {
     assert_eq!(rt; refusal(OpenTable::new().add(2)), Some(2));
     assert_eq!(rt; refusal(locking(4, 2)), Some(3));
     assert_eq!(rt; refusal(locking(3, 1)), None);
+    Ok(())
+}
+
+// A copy of a sheet gives the tags of the sheet.
+#[test]
+fn copies(rt: HostRuntime) -> Result<(), Fail> {
+    let words = vec![in rt.alloc(); 3; 300]?;
+    let copy = AnySeal::BySheet(Sheet { words }).clone()?;
+    assert_eq!(rt; copy.seal(1, &[7; 24]), 0x100_0001);
     Ok(())
 }

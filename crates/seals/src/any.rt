@@ -7,7 +7,7 @@ use super::keyed::Keyed;
 use super::seal::Tagging;
 use super::sheet::Sheet;
 
-#[derive(Drop)]
+#[derive(Clone, Drop)]
 pub enum AnySeal {
     ByKeys(Keyed),
     BySheet(Sheet),

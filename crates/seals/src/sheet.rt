@@ -6,7 +6,7 @@ ghost use Rattle.std.proofs.Common.{rules};
 use super::seal::Tagging;
 
 // The words of station s begin at place 256 s; a word beyond the sheet is 0.
-#[derive(Drop)]
+#[derive(Clone, Drop)]
 pub struct Sheet {
     pub words: Vec<u64>,
 }
