@@ -9,7 +9,8 @@ use frames::pool::enter;
 use frames::slot::Slot;
 use seals::seal::Sealing;
 
-// Who puts a frame of a step into the pool. A plain number: slots are lent and may hold any mark.
+// Who puts a frame of a step into the pool.
+// A plain number: a slot is the caller's lent plain data and may hold any mark.
 const STEP: u8 = 0;
 
 // The sender's tag on the frame's statement.
