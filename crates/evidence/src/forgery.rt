@@ -9,7 +9,8 @@ use frames::slot::{Origin, Slot};
 use policies::table::Locked;
 use seals::seal::Check;
 
-// Whether a slot holds a step's frame. The mark is a plain number: slots are lent and may hold anything.
+// Whether a slot holds a step's frame.
+// Its mark is a plain number: a slot is the caller's lent plain data and may hold anything.
 fn is_of_step(slot: &Slot) -> bool
     ensures { result ≡ of_step slot.now }
 {

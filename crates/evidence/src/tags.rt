@@ -25,8 +25,8 @@ fn is_senders<S: Check>(seal: &S, f: &Frame, shown: u64) -> bool
     seal.check(f.sender, &f.statement(), shown)
 }
 
-// Whether the frame's tag is right. Here and below the hall lends seal, policy and frame one by one; a struct of them
-// would be built for one call only.
+// Whether the frame's tag is right.
+// Here and below the hall lends seal, policy and frame one by one: a struct of them would serve one call only.
 pub fn sender_right<S: Check>(seal: &S, f: &Frame) -> bool
     ensures { result ≡ sender_tagged (S.Check.tag seal.now) f.now }
 {

@@ -14,7 +14,8 @@ pub fn same_entry(a: Entry, b: Entry) -> bool
     a == b
 }
 
-// A vote that some station gave, whatever it votes on: so one count serves every kind of vote, and is proved once.
+// A vote that some station gave, whatever it votes on.
+// A trait and no closure: its ghost member gives each kind of vote its meaning, and one count is proved for all.
 pub trait Ballot {
     type Subject;
 
@@ -42,8 +43,8 @@ fn is_backer<V: Ballot>(held: &Option<V>, what: &V::Subject) -> bool
     held.as_ref().is_some_and(|vote| vote.is_for(what))
 }
 
-// How many of the first n stations vote for a subject; votes stand at their stations' numbers. The sixteen are a
-// record's, lent as plain data, and n is a table's: a struct of both would be built for one call only.
+// How many of the first n stations vote for a subject; votes stand at their stations' numbers.
+// The votes are a record's, lent as plain data, and n is a table's: a struct of both would serve one call only.
 pub fn support<V: Ballot>(votes: &[Option<V>; 16], n: u32, what: &V::Subject) -> u32
     ensures is { result ≡ support_of V.Ballot.backs what.now (take n votes.now) }
     ensures few { result ≤ 16 }
@@ -91,7 +92,8 @@ pub fn quorum(votes: &[Option<Vote>; 16], n: u32, size: u32, entry: Entry) -> Op
     (size <= support(votes, n, &entry)).then(|| lowest(votes, n, size as u8, entry))
 }
 
-// The entry of station i's vote; zeros where there is no vote, as in the protocol's definition of its own vote.
+// The entry of station i's vote.
+// Zeros where there is no vote: so the protocol defines a station's own vote, and the law ranges over that.
 pub fn own_entry(votes: &[Option<Vote>; 16], i: u32) -> Entry
     ensures { result ≡ entry_held i votes.now }
 {
