@@ -4,5 +4,4 @@ pub mod Ranges
 pub mod Quorums
 pub mod Tested
 pub mod Whole
-pub mod Defaults
 pub mod Asked

@@ -1,13 +1,10 @@
--- What the tests of every call show, and the records of a new hall.
-use Rattle.std.proofs.Common.{◌≡◌, ℕ, suc, ◌+◌, ◌*◌, ◌<◌, ◌≤◌, Bool, true, false, eqb, leb, ◌⊎◌, List, length, get_or, replicate, sym, refl, subst, inl, inr, mul-le-mul_right, suc-mul, mul-le-mul, arith}
-use lib.ListN.{get_or-replicate}
-use Rattle.std.proofs.lemmas.List.{get_or_past}
-use Rattle.std.proofs.lemmas.Bool.{cases_lt, leb-true, eqb-true}
+-- What the tests of every call show.
+use Rattle.std.proofs.Common.{◌≡◌, ℕ, suc, ◌+◌, ◌*◌, ◌<◌, ◌≤◌, true, eqb, leb, List, length, mul-le-mul_right, suc-mul, mul-le-mul, arith}
+use Rattle.std.proofs.lemmas.Bool.{leb-true, eqb-true}
 use Rattle.base.specs.declared.book.Batch.{Batch}
 use Rattle.frames.proofs.Basics.{and_true}
 use Rattle.protocol.specs.Law.{Terms}
-use Rattle.protocol.specs.Steps.{World, in_range, fitting, no_station}
-use Rattle.hall.specs.Steady.{Steady, SteadyStation}
+use Rattle.protocol.specs.Steps.{World, in_range, fitting}
 
 pub few_batches : (d : Terms) → in_range d ≡ true → d.batches ≤ 1000
 unfolding in_range
@@ -39,19 +36,3 @@ pub in_books : (i n b k entries : ℕ) → i < n → k < b → entries ≡ n * b
 in_books i n b k entries there left shape =
     let row : suc i * b ≤ n * b = mul-le-mul_right b there in
     omega (arith, row, suc-mul i b, left, shape)
-
--- the records of a new hall
-idle_at : (i : ℕ) → get_or (replicate 16 no_station) i no_station ≡ no_station
-idle_at i = go (cases_lt i 16)
-  where
-    go : (i < 16) ⊎ (16 ≤ i) → get_or (replicate 16 no_station) i no_station ≡ no_station
-    go (inl l) = get_or-replicate 16 i no_station no_station l
-    go (inr l) = get_or_past (replicate 16 no_station) i no_station l
-
-pub all_idle : (batches : ℕ) → Steady batches (replicate 16 no_station)
-all_idle batches =
-    let one : SteadyStation batches no_station = (omega arith, λ e. absurd (none e), omega arith, refl) in
-    (refl, λ i. subst (SteadyStation batches) (sym (idle_at i)) one)
-  where
-    none : false ≡ true → ⊥
-    none e = let z : ◌≡◌ {A = Bool} false true = e in let y : ◌≡◌ {A = ℕ} 0 1 = cc in omega arith

@@ -76,9 +76,6 @@ module _ {R P S : Type 0} (r : Rule.Ghosts R) (p : Policy.Ghosts P) (s : Check.G
     sized : Sizes d intake w
     sized = sizes d intake w tests.1
 
-    pub intake_long : length intake ≡ d.batches
-    intake_long = sized.intake_size
-
     reached : (c : Call) → act d intake c w ≡ whole_call d intake c w
     unfolding whole_call
     reached c = rw (tests.0, tests.1) refl

@@ -15,6 +15,7 @@ use rules::rule::Rule;
 use seals::seal::Sealing;
 
 impl<R: Rule, P: Policy, S: Sealing> Hall<R, P, S> {
+    #[tactic(auto, unfolding(protocol::specs::Steps::fitting))]
     pub fn open(
         &mut self,
         i: u32,

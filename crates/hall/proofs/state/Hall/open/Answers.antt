@@ -1,6 +1,6 @@
 use Rattle.std.proofs.Common.{rules}
 use Rattle.protocol.specs.Law.{opening}
-use Rattle.hall.proofs.Whole.{kept, unadmitted, open_unknown, open_refused, open_done, intake_long, open_placed}
+use Rattle.hall.proofs.Whole.{kept, unadmitted, open_unknown, open_refused, open_done, open_placed}
 use Rattle.hall.proofs.state.Hall.open.Goals as goal
 
 pub returns-in_err-admit-clause-call : goal.returns-in_err-admit-clause-call
@@ -20,11 +20,6 @@ returns-in_err-batch-clause-call g c =
     let a = c.args in
     let e = open_refused g.R.Rule g.P.Policy g.S.Check a.self.now a.intake.now a.pool.now a.books.now c.in_ok-admit.ensures.same a.i c.in_ok-who.who.i c.in_ok-who.ensures c.record_at-st.result.now c.record_at-st.ensures c.in_err-batch.field-0.0 c.in_err-batch.ensures in
     search rules
-
-pub open_ready-requires : goal.open_ready-requires
-open_ready-requires g c =
-    let a = c.args in
-    intake_long g.R.Rule g.P.Policy g.S.Check a.self.now a.intake.now a.pool.now a.books.now c.in_ok-admit.ensures.same
 
 pub open_on-requires : goal.open_on-requires
 open_on-requires g c =

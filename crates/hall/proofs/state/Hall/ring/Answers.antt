@@ -1,9 +1,13 @@
-use Rattle.std.proofs.Common.{rules}
+use Rattle.std.proofs.Common.{◌≡◌, [], map, min, take, ap, rules}
 use Rattle.std.proofs.lemmas.Bool.{both_ways}
+use Rattle.frames.specs.declared.frame.Pairs.{Pairs}
+use Rattle.frames.specs.Typed.{plain, listed}
 use Rattle.protocol.specs.Law.{ringing}
-use Rattle.hall.proofs.Defaults.{unpaired}
 use Rattle.hall.proofs.Whole.{kept, unadmitted, ring_unknown, ring_refused, ring_done, ring_moving, ring_seat}
 use Rattle.hall.proofs.state.Hall.ring.Goals as goal
+
+unpaired : (p : Pairs) → p.count ≡ 0 → map plain (listed p) ≡ []
+unpaired p none = ap (λ n. map plain (take (min n 8) p.each)) none
 
 pub returns-in_err-admit-clause-call : goal.returns-in_err-admit-clause-call
 returns-in_err-admit-clause-call g c =
