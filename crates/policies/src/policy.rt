@@ -18,6 +18,7 @@ pub trait Policy {
 
     ghost seats: { Self → ℕ → ℕ → Bool };
 
+    // No bodies here: a trait knows no fields, and a body of `last` would have to hold of every top.
     fn count_stations(&self) -> u32
         ensures { result ≡ stations self.now };
 
