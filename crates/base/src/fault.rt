@@ -22,6 +22,7 @@ pub struct Fault {
 }
 
 impl Layer {
+    // A method: `u8::from` would not say which number it is.
     pub fn number(self) -> u8
         ensures { result ≡ layer_number self }
     {

@@ -39,6 +39,7 @@ pub enum Refusal {
 }
 
 impl Refusal {
+    // A method: `u8::from` would not say which number it is.
     pub fn number(self) -> u8
         ensures { result ≡ number_of self }
     {

@@ -50,6 +50,7 @@ pub struct Frame {
 pub const LAST_NUMBER: u16 = 20_000;
 
 impl Kind {
+    // A method: `u8::from` would not say which number it is.
     pub fn number(self) -> u8
         ensures { result ≡ kind_number self }
     {

@@ -7,9 +7,9 @@ use Rattle.base.specs.declared.refusal.Refusal.TheVariants.{OutOfRange, WrongLen
 use Rattle.frames.specs.declared.frame.Frame.{Frame}
 use Rattle.frames.specs.declared.frame.Kind.{Kind}
 use Rattle.frames.specs.declared.frame.Pairs.{Pairs}
-use Rattle.frames.specs.declared.frame.Pair.{Pair}
 use Rattle.frames.specs.declared.slot.Slot.{Slot}
 use Rattle.frames.specs.Frames.{◌and◌}
+use Rattle.frames.specs.Typed.{no_pair}
 use Rattle.protocol.specs.declared.station.Station.{Station}
 use Rattle.protocol.specs.Law.{Terms}
 use Rattle.protocol.specs.Steps.{World, in_range, fitting, passing, no_entry}
@@ -45,9 +45,6 @@ taken_slot s = record { len = s.len; bytes = s.bytes; by = s.by; taken = true }
 -- the number of a station that stands
 abbrev pub number_of : Standing → ℕ
 number_of s = s.i
-
-abbrev pub no_pair : Pair
-no_pair = record { station = 0; tag = 0 }
 
 abbrev pub no_pairs : Pairs
 no_pairs = record { count = 0; each = replicate 8 no_pair }

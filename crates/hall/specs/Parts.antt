@@ -11,17 +11,13 @@ use Rattle.frames.specs.Typed.{decoded, stated}
 use Rattle.protocol.specs.declared.station.Station.{Station}
 use Rattle.protocol.specs.Law.{Terms}
 use Rattle.protocol.specs.Steps.{passing, no_batch, at_work}
-use Rattle.protocol.specs.Ready.{passing_at, unless_at, and_then, roomy, pairs_in, sender_right, pair_right, rightly_from, pair_leaves, kind_ready}
+use Rattle.protocol.specs.Ready.{passing_at, unless_at, and_then, roomy, pairs_in, sender_right, rightly_from, pair_leaves, kind_ready}
 
 -- a frame that some bytes decode as states what they begin with
 abbrev pub States : ℕ → ℕ → ℕ → List ℕ → Type 0
 States n t batches bs = (f : Frame) → decoded n t batches bs ≡ Ok f → stated f ≡ take 24 bs
 
 module _ (d : Terms) where
-  -- of a decision
-  abbrev pub decision_ready : Frame → Result (Unit {0}) Fault
-  decision_ready f = unless_at (first_pair (pair_right d f) 32 (pairs_in f)) PairTag (Ok tt)
-
   -- of a reselect, at a station with this committee number
   abbrev pub reselect_ready : ℕ → Frame → Result (Unit {0}) Fault
   reselect_ready number f =
