@@ -22,13 +22,25 @@ near n x y e h k =
     (λ (l : y / n < x / n). let p = mul-le-mul_left n l in let s = mul-suc n (y / n) in let z : ⊥ = omega arith in absurd z))
     (cases_order (x / n) (y / n))
 
+bit_le_one : (b : Bool) → bit b ≤ 1
+bit_le_one b = grind arith
+
+bit_of_or : (x y : Bool) → bit (x || y) ≤ bit x + bit y
+bit_of_or x y = grind arith
+
+bit_apart : (x y : Bool) → (x ≡ true → y ≢ true) → bit (x || y) ≡ bit x + bit y
+bit_apart x y h = grind (arith, h)
+
+bit_mono : (x y : Bool) → (x ≡ true → y ≡ true) → bit x ≤ bit y
+bit_mono x y h = grind (arith, h)
+
 pub count_same : (f g : ℕ → Bool) (n : ℕ) → ((i : ℕ) → i < n → f i ≡ g i) → count f n ≡ count g n
 count_same f g zero h = refl
 count_same f g (suc n) h = grind (arith, h n (omega arith), count_same f g n (λ i l. h i (omega arith)))
 
 pub count_mono : (f g : ℕ → Bool) (n : ℕ) → ((i : ℕ) → f i ≡ true → g i ≡ true) → count f n ≤ count g n
 count_mono f g zero h = omega arith
-count_mono f g (suc n) h = grind (arith, h n, count_mono f g n h)
+count_mono f g (suc n) h = omega (arith, bit_mono (f n) (g n) (h n), count_mono f g n h)
 
 -- everything passes
 pub count_all : (n : ℕ) → count (λ _. true) n ≡ n
@@ -37,11 +49,11 @@ count_all (suc n) = omega (arith, count_all n)
 
 count_or_le : (f g : ℕ → Bool) (n : ℕ) → count (λ i. f i || g i) n ≤ count f n + count g n
 count_or_le f g zero = omega arith
-count_or_le f g (suc n) = grind (arith, count_or_le f g n)
+count_or_le f g (suc n) = omega (arith, bit_of_or (f n) (g n), count_or_le f g n)
 
 pub count_or : (f g : ℕ → Bool) (n : ℕ) → ((i : ℕ) → i < n → f i ≡ true → g i ≢ true) → count (λ i. f i || g i) n ≡ count f n + count g n
 count_or f g zero h = refl
-count_or f g (suc n) h = grind (arith, h n (omega arith), count_or f g n (λ i l. h i (omega arith)))
+count_or f g (suc n) h = omega (arith, bit_apart (f n) (g n) (h n (omega arith)), count_or f g n (λ i l. h i (omega arith)))
 
 -- nothing passes
 pub count_none : (f : ℕ → Bool) (n : ℕ) → ((i : ℕ) → i < n → f i ≡ false) → count f n ≡ 0
@@ -54,7 +66,7 @@ count_once f zero h = omega arith
 count_once f (suc n) h = ⊎_elim
     (λ (e : f n ≡ true).
     let none : count f n ≡ 0 = count_none f n (λ i l. false_from_ne_true (f i) (λ t. let z : i ≡ n = h i n (omega arith) (omega arith) t e in let w : ⊥ = omega arith in w)) in
-    grind arith)
+    omega (arith, bit_le_one (f n)))
     (λ (e : f n ≡ false). grind (arith, count_once f n (λ i j l k. h i j (omega arith) (omega arith))))
     (cases_Bool (f n))
 
@@ -78,11 +90,15 @@ one_fails f (suc n) h = ⊎_elim
 some_decides : (f : ℕ → Bool) (k : ℕ) → Decides (some f k) ((j : ℕ) × (j < k) × (f j ≡ true))
 some_decides f = Decides-below_or f (λ j. f j ≡ true) (some f) (λ j. (λ e. e, λ e. e)) refl (λ _. refl)
 
+-- a test that some of k tests passes
+pub some_here : (f : ℕ → Bool) (k j : ℕ) → j < k → f j ≡ true → some f k ≡ true
+some_here f k j h e = (some_decides f k).1 (j, h, e)
+
 pub some_at : (f : ℕ → Bool) (k : ℕ) → some f k ≡ true → (j : ℕ) × (j < k) × (f j ≡ true)
 some_at f k = (some_decides f k).0
 
 pub some_none : (f : ℕ → Bool) (k : ℕ) → some f k ≡ false → (j : ℕ) → j < k → f j ≡ false
-some_none f k e j h = false_from_ne_true (f j) (λ t. both_ways (some f k) e ((some_decides f k).1 (j, h, t)))
+some_none f k e j h = false_from_ne_true (f j) (λ t. both_ways (some f k) e (some_here f k j h t))
 
 count_and : (b : Bool) (f : ℕ → Bool) (n c : ℕ) → count f n ≤ c → count (λ i. b && f i) n ≤ bit b * c
 count_and b f n c h = grind (arith, count_none (λ i. false) n (λ _ _. refl))

@@ -4,7 +4,7 @@ ghost use Rattle.rules.specs.Levy.{levy_outcome};
 ghost use Rattle.std.proofs.Common.{rules};
 
 use super::batch::Checked;
-use super::rule::{Outcome, Rule};
+use super::rule::{MOST_CARRIED, Outcome, Rule};
 
 #[derive(Clone, Copy)]
 pub struct Levy;
@@ -20,12 +20,12 @@ impl Rule for Levy {
 
     fn work(&self, carry: u32, b: Checked) -> Outcome {
         let fruit = b.batch().fruit;
-        let total = carry.min(99_999_999) + fruit;
+        let total = carry.min(MOST_CARRIED) + fruit;
         let cheap = fruit.min(total.saturating_sub(200_000));
         Outcome {
             amount: 12 * (fruit - cheap) + 9 * cheap,
             figure: cheap,
-            carry: total.min(99_999_999),
+            carry: total.min(MOST_CARRIED),
         }
     }
 }

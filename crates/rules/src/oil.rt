@@ -4,7 +4,7 @@ ghost use Rattle.rules.specs.Oil.{oil_outcome};
 ghost use Rattle.std.proofs.Common.{rules};
 
 use super::batch::Checked;
-use super::rule::{Outcome, Rule};
+use super::rule::{MOST_CARRIED, Outcome, Rule};
 
 #[derive(Clone, Copy)]
 pub struct Oil;
@@ -20,7 +20,7 @@ impl Rule for Oil {
 
     fn work(&self, carry: u32, b: Checked) -> Outcome {
         let lot = b.batch();
-        let grams = carry.min(99_999_999) + lot.oil;
+        let grams = carry.min(MOST_CARRIED) + lot.oil;
         let amount = grams / 1_000;
         Outcome {
             amount,

@@ -15,6 +15,9 @@ pub struct Outcome {
     pub carry: u32,
 }
 
+// What is carried at most.
+pub(crate) const MOST_CARRIED: u32 = 99_999_999;
+
 pub trait Rule {
     // the rule's whole meaning: from a carry and a batch to its outcome
     ghost outcome: { Self → ℕ → Batch → Outcome };

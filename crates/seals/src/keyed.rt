@@ -26,22 +26,17 @@ fn folded(key: u64, words: &[[u8; 8]]) -> u64
         .fold(key, |h, w| mixed(key, h, u64::from_be_bytes(*w)))
 }
 
-fn tag_of(keys: &[u64; 16], station: u8, statement: &[u8; 24]) -> u64
-    ensures { result ≡ keyed_tag keys.now station statement.now }
-{
-    let Some(key) = keys.get(usize::from(station)) else {
-        return 0;
-    };
-    let (words, _) = statement.as_chunks();
-    folded(*key, words)
-}
-
 impl Tagging for Keyed {
     ghost tagged = { λ k i l. keyed_tag k.keys i l };
 
     ghost fits = { Prim.search rules };
 
     fn tag_of(&self, station: u8, statement: &[u8; 24]) -> u64 {
-        tag_of(&self.keys, station, statement)
+        // a station without a key has the tag 0, as the formula says
+        let Some(key) = self.keys.get(usize::from(station)) else {
+            return 0;
+        };
+        let (words, _) = statement.as_chunks();
+        folded(*key, words)
     }
 }

@@ -23,6 +23,7 @@ fn mixed(words: &[u64], first: usize, statement: &[u8; 24]) -> u64
     requires { first ≤ 4096 }
     ensures { result ≡ xors (picked words.now first statement.now) 24 }
 {
+    // A loop: the sum of the definition goes by numbers, and with a fold the check does not close it.
     let mut tag = 0;
     for (p, byte) in statement.iter().enumerate() {
         tag ^= word(words, first + usize::from(*byte)).rotate_left(p as u32);
@@ -36,6 +37,7 @@ impl Tagging for Sheet {
     ghost fits = { Prim.search rules };
 
     fn tag_of(&self, station: u8, statement: &[u8; 24]) -> u64 {
+        // a station beyond the sheet has the tag 0, as the formula says
         if station >= 16 {
             return 0;
         }

@@ -31,7 +31,8 @@ impl OpenTable {
         self.n
     }
 
-    // One station more; a refusal hands the table back as it was.
+    // One station more; a refusal hands the table back as it was. A mark is a plain number, since any other
+    // than 0 and 1 is refused by its number.
     pub fn add(self, mark: u8) -> Result<OpenTable, (OpenTable, Fault)>
         ensures { result_map_both open_plain handed_back result ≡ adding (open_plain self) mark }
     {

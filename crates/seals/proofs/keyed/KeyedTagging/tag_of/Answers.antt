@@ -1,6 +1,6 @@
 use Rattle.std.proofs.Common.{rules}
 use Rattle.seals.proofs.Words.{chunks_folded}
-use Rattle.seals.proofs.keyed.tag_of.Goals as goal
+use Rattle.seals.proofs.keyed.KeyedTagging.tag_of.Goals as goal
 
 pub returns : goal.returns
 returns c =
