@@ -78,6 +78,7 @@ fn lowest(votes: &[Option<Vote>; 16], n: u32, size: u8, what: Entry) -> Pairs
         .filter_map(|(station, held)| pair_of(station, *held, &what))
         .take(usize::from(size));
     let mut each = [Pair::default(); 8];
+    // By index: a proof does not join `from_fn`'s calls of `backers.next()`, nor know an array lent to `zip`.
     for (k, pair) in (0..8).zip(backers) {
         each[k] = pair;
     }

@@ -1,10 +1,12 @@
 -- Frames as they are read: a chain of tests, part by part, and one pair after the other.
-use Rattle.std.proofs.Common.{◌≡◌, ℕ, zero, suc, ◌+◌, ◌-◌, ◌*◌, ◌/◌, ◌<◌, ◌≤◌, min, Bool, true, false, ◌&&◌, cond, eqb, List, [], ◌∷◌, ◌++◌, map, length, get_or, take, drop, set, replicate, Some, None, Ok, Err, Option, sym, refl, ap, ◌∙◌, ap₂, arith, lit<}
+use Rattle.std.proofs.Common.{◌≡◌, ℕ, zero, suc, ◌+◌, ◌-◌, ◌*◌, ◌/◌, ◌<◌, ◌≤◌, Bool, true, false, ◌&&◌, cond, eqb, List, [], ◌∷◌, ◌++◌, map, length, get_or, take, drop, replicate, Some, None, Ok, Err, Option, sym, refl, subst, ap, ◌∙◌, ap₂, arith, lit<}
 use Rattle.std.specs.List.{list_all}
 use Rattle.std.specs.Simd.{first_chunks}
+use Rattle.std.specs.Fn.{Mut, Called}
+use Rattle.std.specs.Array.{IsFromFnResultFrom, IsFromFnResult}
 use Rattle.std.proofs.lemmas.Bool.{eqb-true}
 use Rattle.std.proofs.lemmas.Bool.Decides.{nat_tests}
-use Rattle.std.proofs.lemmas.List.{append_assoc, drop-drop, get_or-drop, get_or-map, get_or-take, length-map, length-take-le, map_more, set_at, take-take}
+use Rattle.std.proofs.lemmas.List.{drop-drop, ext_get_or, get_or-drop, get_or-replicate, get_or-take, length-append, length-map, length-replicate, length-take, take-map, take-take}
 use Rattle.std.proofs.lemmas.List.Recursion.{same_from_clauses}
 use Rattle.base.specs.declared.fault.Fault.{Fault}
 use Rattle.base.specs.declared.refusal.Refusal.TheVariants.{Malformed}
@@ -33,28 +35,44 @@ Rises n low k cs = first_fault (rising_tests n low (32 + 9 * k) (map pair_in (dr
 
 -- the pairs that are kept
 
--- k pairs stand in front, and none behind
-abbrev pub Filled : List (ℕ × ℕ) → List Pair → ℕ → Type 0
-Filled ps each k = each ≡ map pair_at (take k ps) ++ replicate (8 - k) no_pair
+-- an array that a closure makes place by place, where no call changes the closure
+module _ {F B : Type 0} (g : Mut F (ℕ × Unit {0}) B) (v : ℕ → B) (f : F) (one : (k : ℕ) (y : B) (f' : F) → Called g f (k, tt) y f' → (y ≡ v k) × (f' ≡ f)) where
+  made_at : (ys : List B) (n i j k : ℕ) (d : B) (q : F) → q ≡ f → IsFromFnResultFrom g q ys i n → j < n → i + j ≡ k → get_or ys k d ≡ v k
+  made_at ys zero i j k d q e m l h = absurd (omega arith)
+  made_at ys (suc n) i zero k d q e m l h =
+      let at : i ≡ k = omega arith in
+      subst (λ j. get_or ys j d ≡ v j) at (m.2.1 d ∙ (one i m.1 m.0 (subst (λ (p : F). Called g p (i, tt) m.1 m.0) e m.3)).0)
+  made_at ys (suc n) i (suc j) k d q e m l h =
+      made_at ys n (i + 1) j k d m.0 (one i m.1 m.0 (subst (λ (p : F). Called g p (i, tt) m.1 m.0) e m.3)).1 m.4 (omega arith) (omega arith)
 
-fill_more : (xs : List Pair) (n k : ℕ) (v : Pair) → length xs ≡ k → k < n → set (xs ++ replicate (n - k) no_pair) k v ≡ (xs ++ v ∷ []) ++ replicate (n - (k + 1)) no_pair
-fill_more xs n k v l h =
-    let e : n - k ≡ suc (n - (k + 1)) = omega arith in
-    ap (λ m. set (xs ++ replicate m no_pair) k v) e ∙ set_at xs no_pair (replicate (n - (k + 1)) no_pair) v k l
-    ∙ sym (append_assoc xs (v ∷ []) (replicate (n - (k + 1)) no_pair))
+  pub from_fn_same : (ys : List B) (n k : ℕ) (d : B) → IsFromFnResult g f ys n → k < n → get_or ys k d ≡ v k
+  from_fn_same ys n k d m l = made_at ys n 0 k k d f refl m.each l (omega arith)
 
--- `some` are the first eight
-pub filled_more : (cs some : List (List ℕ)) (k : ℕ) (each : List Pair) (r : Pair) (d : List ℕ) → some ≡ take (min 8 (length cs)) cs → k < length some
-    → r ≡ pair_at (pair_in (get_or some k d)) → Filled (map pair_in cs) each k → Filled (map pair_in cs) (set each k r) (k + 1)
-filled_more cs some k each r d e h q inv =
-    let ps : List (ℕ × ℕ) = map pair_in cs in
-    let size : length some ≡ min 8 (length cs) = ap length e ∙ length-take-le (min 8 (length cs)) cs (omega arith) in
-    let inside : k < length ps = omega (arith, length-map cs pair_in) in
-    let front : length (map pair_at (take k ps)) ≡ k = length-map (take k ps) pair_at ∙ length-take-le k ps (omega arith) in
-    let item : get_or some k d ≡ get_or cs k d = ap (λ l. get_or l k d) e ∙ get_or-take (min 8 (length cs)) cs k d (omega arith) in
-    let v : r ≡ pair_at (get_or ps k (0, 0)) = q ∙ ap (λ b. pair_at (pair_in b)) item ∙ sym (ap pair_at (get_or-map pair_in cs k d (0, 0) (omega arith))) in
-    ap₂ (λ x y. set x k y) inv v ∙ fill_more (map pair_at (take k ps)) 8 k (pair_at (get_or ps k (0, 0))) front (omega arith)
-    ∙ ap (λ l. l ++ replicate (8 - (k + 1)) no_pair) (sym (map_more pair_at ps k (0, 0) inside))
+-- a pair at a place, and none behind the last
+pub held_at : (cs : List (List ℕ)) (k : ℕ) (y : Pair) → (k < length cs → y ≡ pair_at (pair_in (get_or cs k []))) → (length cs ≤ k → y ≡ no_pair)
+    → y ≡ get_or (map pair_at (map pair_in cs)) k no_pair
+held_at [] k y inside behind = behind (omega arith)
+held_at (c ∷ cs) zero y inside behind = inside (omega arith)
+held_at (c ∷ cs) (suc k) y inside behind = held_at cs k y (λ h. inside (omega arith)) (λ h. behind (omega arith))
+
+-- the first n, filled up to n, and none behind them
+filled : (n : ℕ) (ps : List Pair) (k : ℕ) → k < n → get_or (take n ps ++ replicate (n - length (take n ps)) no_pair) k no_pair ≡ get_or ps k no_pair
+filled zero ps k l = absurd (omega arith)
+filled (suc n) [] k l = get_or-replicate (suc n - 0) k no_pair no_pair (omega arith)
+filled (suc n) (p ∷ ps) zero l = refl
+filled (suc n) (p ∷ ps) (suc k) l =
+    let e : suc n - suc (length (take n ps)) ≡ n - length (take n ps) = omega arith in
+    ap (λ m. get_or (take n ps ++ replicate m no_pair) k no_pair) e ∙ filled n ps k (omega arith)
+
+pub all_held : (count : ℕ) (ps : List (ℕ × ℕ)) (each : List Pair) → length each ≡ 8
+    → ((k : ℕ) → k < 8 → get_or each k no_pair ≡ get_or (map pair_at ps) k no_pair) → record { count = count; each = each } ≡ holding count ps
+all_held count ps each long at =
+    let some : List Pair = map pair_at (take 8 ps) in
+    let same : some ≡ take 8 (map pair_at ps) = sym (take-map pair_at 8 ps) in
+    let eight : length (some ++ replicate (8 - length some) no_pair) ≡ 8 =
+    length-append some (replicate (8 - length some) no_pair) ∙ omega (arith, length-replicate (8 - length some) no_pair, length-map (take 8 ps) pair_at, length-take 8 ps) in
+    ap (λ l. record { count = count; each = l }) (ext_get_or no_pair each (some ++ replicate (8 - length some) no_pair) (long ∙ sym eight)
+    (λ k l. at k (omega (arith, long)) ∙ sym (filled 8 (map pair_at ps) k (omega (arith, long))) ∙ ap (λ l. get_or (l ++ replicate (8 - length l) no_pair) k no_pair) (sym same)))
 
 -- parts that were cut
 

@@ -7,12 +7,12 @@ ghost use Rattle.frames.specs.Frames.{first_fault, rising_tests};
 ghost use Rattle.frames.specs.Typed.{kind_number, number_test, count_test, held_to, head_tests, count_tests, head_of, holding, frame_of, decoded, line_decoded, Cut, entry_in, tag_in, pair_in, pair_at, parts_tests, frame_in};
 ghost use Rattle.frames.specs.Bothways.{BothWays};
 
-use super::bytes::first;
 use super::frame::{Frame, Kind, LAST_NUMBER, Pair, Pairs};
 use super::line::read_line;
 use base::book::Entry;
 use base::fault::Fault;
 use base::refusal::Refusal;
+use std::array;
 
 // What a frame is held to: the number of stations, how many of them may be faulty, and the number of
 // batches.
@@ -101,11 +101,10 @@ fn read_pair(bytes: &[u8; 9]) -> Pair
 fn read_pairs(count: u8, pairs: &[[u8; 9]]) -> Pairs
     ensures { result ≡ holding count (map pair_in pairs.now) }
 {
-    let mut each = [Pair::default(); 8];
-    for (k, pair) in first(pairs, 8).iter().enumerate() {
-        each[k] = read_pair(pair);
+    Pairs {
+        count,
+        each: array::from_fn(|k| pairs.get(k).map(read_pair).unwrap_or_default()),
     }
-    Pairs { count, each }
 }
 
 impl Parts<'_> {

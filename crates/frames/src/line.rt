@@ -36,6 +36,7 @@ fn read_digits(line: &[u8]) -> Result<FrameBytes, Fault>
 {
     let (pairs, _) = line.as_chunks::<2>();
     let mut bytes = [0; LONGEST];
+    // By index: `try_from_fn` promises some fault, not the first, and a proof knows no element of an array lent to `zip`.
     for (k, [high, low]) in pairs.iter().enumerate() {
         bytes[k] = digit_value(*high, 2 * k)? * 16 + digit_value(*low, 2 * k + 1)?;
     }
