@@ -13,7 +13,8 @@ pub enum Layer {
     Hall = 4,
 }
 
-// The place counts bytes or digits from 0; it is 0 where a refusal has none.
+// The place counts bytes or digits from 0; it is 0 where a refusal has none. Layer and place stand in every fault, as
+// those who get one read all three: an Option, or a layer to be asked for, would be no plainer.
 #[derive(Clone, Copy, PartialEq, Eq, Debug)]
 pub struct Fault {
     pub layer: Layer,
@@ -22,7 +23,7 @@ pub struct Fault {
 }
 
 impl Layer {
-    // A method: `u8::from` would not say which number it is.
+    // A method: an impl of `From` would be this cast and clause again.
     pub fn number(self) -> u8
         ensures { result ≡ layer_number self }
     {

@@ -39,7 +39,7 @@ pub enum Refusal {
 }
 
 impl Refusal {
-    // A method: `u8::from` would not say which number it is.
+    // A method: an impl of `From` would be this cast and clause again.
     pub fn number(self) -> u8
         ensures { result ≡ number_of self }
     {

@@ -26,7 +26,7 @@ fn is_senders<S: Check>(seal: &S, f: &Frame, shown: u64) -> bool
 }
 
 // Whether the frame's tag is right.
-// Here and below the hall lends seal, policy and frame one by one: a struct of them would serve one call only.
+// Here and below seal, policy and frame stay parameters: a caller has them one by one, and would first build the struct.
 pub fn sender_right<S: Check>(seal: &S, f: &Frame) -> bool
     ensures { result ≡ sender_tagged (S.Check.tag seal.now) f.now }
 {

@@ -1,5 +1,5 @@
 // Votes, and how many stations back one entry.
-ghost use Rattle.std.specs.Prelude.{◌≡◌, ℕ, ◌≤◌, Bool, true, take, nat_le};
+ghost use Rattle.std.specs.Prelude.{◌≡◌, ◌≤◌, Bool, take};
 ghost use Rattle.protocol.specs.Steps.{backers};
 ghost use Rattle.evidence.specs.Votes.{equal_entries, is_for, support_of, backs_entry, pair_backed, lowest_of, quorum_of, entry_held};
 
@@ -15,7 +15,7 @@ pub fn same_entry(a: Entry, b: Entry) -> bool
 }
 
 // A vote that some station gave, whatever it votes on.
-// A trait and no closure: its ghost member gives each kind of vote its meaning, and one count is proved for all.
+// A trait and no closure: `support` is public and counts any kind of vote that has one, by what its ghost member says.
 pub trait Ballot {
     type Subject;
 

@@ -4,7 +4,7 @@ ghost use Rattle.std.specs.List.{list_all};
 ghost use Rattle.base.specs.Refusals.{fault_at};
 ghost use Rattle.base.specs.declared.refusal.Refusal.TheVariants.{Malformed};
 ghost use Rattle.frames.specs.Frames.{first_fault, rising_tests};
-ghost use Rattle.frames.specs.Typed.{kind_number, number_test, count_test, held_to, head_tests, count_tests, head_of, holding, frame_of, decoded, line_decoded, Cut, entry_in, tag_in, pair_in, pair_at, parts_tests, frame_in};
+ghost use Rattle.frames.specs.Typed.{kind_number, number_test, count_test, held_to, head_tests, count_tests, head_of, holding, decoded, line_decoded, Cut, entry_in, tag_in, pair_in, pair_at, parts_tests, frame_in};
 ghost use Rattle.frames.specs.Bothways.{BothWays};
 
 use super::frame::{Frame, Kind, LAST_NUMBER, Pair, Pairs};
@@ -90,6 +90,7 @@ fn read_tag(body: &[u8; 24]) -> u64
 fn read_pair(bytes: &[u8; 9]) -> Pair
     ensures { result ≡ pair_at (pair_in bytes.now) }
 {
+    // each byte by name: the rest of a pattern, as an array, gets no proof yet
     let [station, t7, t6, t5, t4, t3, t2, t1, t0] = *bytes;
     Pair {
         station,

@@ -35,6 +35,7 @@ fn assemble(frame: &Frame, statement: &[u8; 24], tag: &[u8; 8]) -> FrameBytes
     ensures short { length (encoded frame.now) ≤ 104 }
     ensures back { ReadsBack frame.now }
 {
+    // A loop: as a fold, what its invariant says would be a lemma on the closure.
     let mut bytes = FrameBytes::join(statement, tag);
     let pairs = frame.pairs.as_slice();
     for pair in pairs {

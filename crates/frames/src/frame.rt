@@ -50,7 +50,7 @@ pub struct Frame {
 pub const LAST_NUMBER: u16 = 20_000;
 
 impl Kind {
-    // A method: `u8::from` would not say which number it is.
+    // A method: an impl of `From` would be this cast and clause again.
     pub fn number(self) -> u8
         ensures { result ≡ kind_number self }
     {

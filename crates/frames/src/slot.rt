@@ -14,8 +14,9 @@ pub enum Origin {
 }
 
 // A length of 0 is no frame, and one above 104 is read as 104; `by` is an origin's number.
-// A pool is the caller's plain data and may hold anything, so `by` may be any number.
-#[derive(Clone, Copy, PartialEq, Eq, Debug)]
+// A pool is the caller's plain data, laid out so, and may hold anything: a length beside its bytes, 0 for no frame, and
+// any number in `by`.
+#[derive(Clone, Copy, PartialEq, Eq, Debug, Default)]
 pub struct Slot {
     pub len: u32,
     pub bytes: [u8; LONGEST],

@@ -2,7 +2,6 @@
 ghost use Rattle.std.specs.Prelude.{◌≡◌, ◌<◌, length, slice_index_or, slice_set};
 ghost use Rattle.frames.specs.Slots.{no_slot};
 ghost use Rattle.rules.specs.Plain.{plain};
-ghost use Rattle.frames.specs.declared.frame.Kind.TheVariants.{Reselect, Decision};
 ghost use Rattle.protocol.specs.Desk.{begun};
 ghost use Rattle.protocol.specs.Ready.{open_on, deliver_on};
 ghost use Rattle.hall.specs.Join.{terms};

@@ -1,5 +1,5 @@
 // The tests that every call makes first.
-ghost use Rattle.std.specs.Prelude.{◌≡◌, ◌*◌, ◌≤◌, [], length};
+ghost use Rattle.std.specs.Prelude.{◌≡◌, []};
 ghost use Rattle.protocol.specs.Steps.{in_range};
 ghost use Rattle.hall.specs.Join.{terms};
 ghost use Rattle.hall.specs.Called.{world, admitted};

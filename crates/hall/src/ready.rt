@@ -1,5 +1,5 @@
 // The tests of each call, in their order.
-ghost use Rattle.std.specs.Prelude.{◌≡◌, ◌+◌, ◌<◌, ◌≤◌, not, length, None, Ok, nat_le, slice_index_or};
+ghost use Rattle.std.specs.Prelude.{◌≡◌, not, length, None, Ok, nat_le, slice_index_or};
 ghost use Rattle.base.specs.declared.refusal.Refusal.TheVariants.{PoolFull, VoteHeld};
 ghost use Rattle.frames.specs.Slots.{free, frame_at};
 ghost use Rattle.rules.specs.Plain.{plain};
@@ -56,7 +56,7 @@ pub(crate) fn record_at(stations: &[Station; 16], who: Standing) -> &Station
     &stations[who.i as usize]
 }
 
-// Frame f of a pool, no byte where there is none.
+// Frame f of a pool; no byte where there is none, which is how a free slot reads too.
 pub(crate) fn frame_in(pool: &[Slot], f: u32) -> &[u8]
     ensures { result.now ≡ frame_at pool.now f }
 {
@@ -146,6 +146,7 @@ impl<R: Rule, P: Policy, S: Sealing> Setup<R, P, S> {
         let batch = u32::from(frame.batch);
         ensure(batch > st.booked, Refusal::EarlierBatch)?;
         ensure(batch - st.booked <= 1, Refusal::LaterBatch)?;
+        // not by `ensure`, which has no place
         if !sender_right(&self.seal, frame) {
             return Err(Fault::new(Refusal::SenderTag, 24));
         }

@@ -11,8 +11,9 @@ pub struct Hall<R, P, S> {
     ghost steady: { Steady setup.batches stations },
 }
 
-// Each call is a method with its own tests and step: what they share is in `admit`, `stands` and `record_at`.
-// The good side of a call stays three marks (reselected, proposed, decided): the project's interface has that tuple.
+// The calls stay methods of their own, a rule of the project: one generic call would take the tests and the step of each
+// as closures over its station. What they share is in `admit`, `stands` and `record_at`.
+// The good side of a call stays three marks (reselected, proposed, decided): callers take that tuple.
 // Intake, pool and books stay three parameters: Open and Inject may only read the books that Ring and Deliver write.
 pub mod deliver;
 pub mod inject;

@@ -43,8 +43,8 @@ fn draft(kind: Kind, who: Standing, batch: u16) -> Frame
     }
 }
 
-// Record, pool and books stay three parameters: as a struct of `&mut`s every step would ensure three ghost names more,
-// and Open, which may only read the books, would need a second struct.
+// Record, pool and books stay three parameters: with a struct of three `&mut`, each step would have to promise of each
+// that it is still the caller's, and Open, which may only read the books, would need a second struct.
 // `Placed` and the like stay `requires`: no ghost field may stand beside the `&mut` that lends the record.
 impl<R: Rule, P: Policy, S: Sealing> Setup<R, P, S> {
     // How many stations decide an entry.

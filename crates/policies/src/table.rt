@@ -2,7 +2,8 @@
 ghost use Rattle.std.specs.Prelude.{◌≡◌, ◌≤◌, true};
 ghost use Rattle.policies.specs.Sound.{sound};
 
-// An array with its count beside it, and plain numbers as marks: a table takes no heap, and moves as it is.
+// An array with its count beside it: a table takes no heap. Marks are the numbers that `add` takes. No Model, for the
+// hall's clauses name n, t and marks.
 // Stations 0 to n - 1 have been added; the mark of a station is 0 for correct and 1 for faulty.
 #[derive(Drop)]
 pub struct OpenTable {

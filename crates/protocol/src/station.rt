@@ -10,6 +10,7 @@ pub struct Vote {
 
 // A batch at work whose numbers are not lawful means that the station is idle. The number is that of the
 // committee that it works under, in this batch; votes stand at the number of the station that sent them.
+// Plain numbers for idle, and a flag for having proposed: the law's definitions read the record so.
 #[derive(Clone, Copy, Default)]
 pub struct Station {
     pub booked: u32,

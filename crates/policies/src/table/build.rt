@@ -15,7 +15,7 @@ fn count_faulty(marks: &[u8]) -> usize
 }
 
 impl OpenTable {
-    // By hand, for no Default is derived beside a ghost field.
+    // By hand: no Default is derived beside a ghost field, and one by hand would only call this.
     pub fn new() -> OpenTable
         ensures { open_plain result ≡ empty }
     {

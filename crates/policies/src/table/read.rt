@@ -27,7 +27,8 @@ impl Locked {
     }
 
     // A second locked table of the same stations, for a second hall.
-    // By hand, for a derived `clone` and `..` are refused beside a ghost field, and a `clone` may fail.
+    // By hand: a derived `clone` and `..` are refused beside a ghost field, a `clone` may fail, and a table that is `Copy`
+    // could be used twice.
     pub fn twin(&self) -> Locked
         ensures { locked_plain result ≡ locked_plain self.now }
     {
