@@ -2,6 +2,7 @@
 use super::reply::{Digits, Marks, Reply};
 use super::trouble::{Mistake, Trouble};
 use base::book::{Batch, Entry};
+use base::fault::Fault;
 use frames::slot::Slot;
 use hall::state::Hall;
 use policies::any::AnyPolicy;
@@ -9,8 +10,8 @@ use rules::any::AnyRule;
 use seals::any::AnySeal;
 use std::alloc::{AllocError, Global};
 
-// The longest buffer that a frame is written into.
-const LONGEST: u32 = 1_024;
+// The most bytes of the buffer that a frame is written into.
+const MOST_WRITTEN: u32 = 1_024;
 
 pub type AnyHall = Hall<AnyRule, AnyPolicy, AnySeal>;
 
@@ -26,6 +27,11 @@ pub struct Floor {
 // A free slot: one that holds no byte.
 fn empty_slot() -> Slot {
     Slot::holding(&[], 0)
+}
+
+// What a call on the hall is answered.
+fn marked(marks: Result<(bool, bool, bool), Fault>) -> Result<Reply, Trouble> {
+    Ok(Reply::Marks(Marks(marks?)))
 }
 
 impl Floor {
@@ -59,33 +65,29 @@ impl Floor {
         Ok(Reply::Done)
     }
 
-    // One helper for the four calls would take closures that borrow parts of the floor: no plainer.
     pub(super) fn open(&mut self, i: u32) -> Result<Reply, Trouble> {
-        let marks = self
-            .hall
-            .open(i, &self.intake, &mut self.pool, &self.books)?;
-        Ok(Reply::Marks(Marks(marks)))
+        marked(self.hall.open(i, &self.intake, &mut self.pool, &self.books))
     }
 
     pub(super) fn deliver(&mut self, i: u32, f: u32) -> Result<Reply, Trouble> {
-        let marks = self
-            .hall
-            .deliver(i, f, &self.intake, &mut self.pool, &mut self.books)?;
-        Ok(Reply::Marks(Marks(marks)))
+        marked(
+            self.hall
+                .deliver(i, f, &self.intake, &mut self.pool, &mut self.books),
+        )
     }
 
     pub(super) fn ring(&mut self, i: u32) -> Result<Reply, Trouble> {
-        let marks = self
-            .hall
-            .ring(i, &self.intake, &mut self.pool, &mut self.books)?;
-        Ok(Reply::Marks(Marks(marks)))
+        marked(
+            self.hall
+                .ring(i, &self.intake, &mut self.pool, &mut self.books),
+        )
     }
 
     pub(super) fn inject(&mut self, line: &[u8]) -> Result<Reply, Trouble> {
-        let marks = self
-            .hall
-            .inject(line, &self.intake, &mut self.pool, &self.books)?;
-        Ok(Reply::Marks(Marks(marks)))
+        marked(
+            self.hall
+                .inject(line, &self.intake, &mut self.pool, &self.books),
+        )
     }
 
     pub(super) fn read(&self, i: u32, k: u32) -> Result<Reply, Trouble> {
@@ -94,7 +96,7 @@ impl Floor {
     }
 
     pub(super) fn write(&self, f: u32, len: u32) -> Result<Reply, Trouble> {
-        let mut buffer = vec![in self.heap; 0; len.min(LONGEST) as usize]?;
+        let mut buffer = vec![in self.heap; 0; len.min(MOST_WRITTEN) as usize]?;
         let count = self
             .hall
             .write(f, &self.intake, &self.pool, &self.books, &mut buffer)?;

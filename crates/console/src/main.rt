@@ -14,7 +14,7 @@ use std::io::{BufRead, BufReader, BufWriter, Read, Stdin, Stdout, Write};
 use trouble::{Mistake, Trouble};
 
 // A longer line is a mistake; only so much of it is shown.
-const LONGEST: usize = 70_000;
+const MOST_SHOWN: usize = 70_000;
 
 // How much of the input is read at a time.
 const PIECE: usize = 65_536;
@@ -25,13 +25,13 @@ fn next_line<'a>(
     line: &'a mut Vec<u8>,
 ) -> io::Result<Option<&'a [u8]>> {
     line.clear();
-    let most = LONGEST as u64 + 1;
+    let most = MOST_SHOWN as u64 + 1;
     if input.by_ref().take(most).read_until(b'\n', line)? == 0 {
         return Ok(None);
     }
     if line.last() == Some(&b'\n') {
         line.pop();
-    } else if line.len() > LONGEST {
+    } else if line.len() > MOST_SHOWN {
         input.skip_until(b'\n')?;
     }
     Ok(Some(line.as_slice()))
@@ -40,7 +40,7 @@ fn next_line<'a>(
 // Answers a line; empty lines and remarks are passed over.
 fn answer(desk: &mut Desk, line: &[u8], out: &mut BufWriter<Stdout>) -> io::Result<()> {
     let answered = match line.first() {
-        _ if line.len() > LONGEST => Err(Trouble::Mistake(Mistake::LineTooLong)),
+        _ if line.len() > MOST_SHOWN => Err(Trouble::Mistake(Mistake::LineTooLong)),
         None | Some(b'#') => return Ok(()),
         Some(_) => desk.answer(line),
     };
@@ -50,7 +50,7 @@ fn answer(desk: &mut Desk, line: &[u8], out: &mut BufWriter<Stdout>) -> io::Resu
     if let Ok(Reply::Book(book)) = &answered {
         write!(out, "{book}")?;
     }
-    out.write_all(&line[..line.len().min(LONGEST)])?;
+    out.write_all(&line[..line.len().min(MOST_SHOWN)])?;
     match answered {
         Ok(reply) => writeln!(out, " -> {reply}"),
         Err(trouble) => writeln!(out, " -> {trouble}"),

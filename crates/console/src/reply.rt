@@ -35,7 +35,7 @@ pub struct Seats(pub Vec<u32>);
 #[derive(Clone, Copy)]
 pub struct Marks(pub (bool, bool, bool));
 
-// A line: how long it is, and its digits.
+// A line, which is printed behind its length.
 #[derive(Drop)]
 pub struct Digits(pub Vec<u8>);
 

@@ -1,6 +1,7 @@
 // Why a command was not done.
-ghost use Rattle.std.specs.Prelude.{Some};
+ghost use Rattle.std.specs.Prelude.{◌≡◌, Some, alloc_error};
 ghost use Rattle.console.specs.Shown.{mistake_text, trouble_text};
+ghost use Rattle.console.specs.declared.trouble.Trouble.TheVariants.{Mistake as Mistaken, Refused, OutOfMemory};
 
 use base::fault::Fault;
 use std::alloc::{AllocError, AllocFailed};
@@ -70,24 +71,32 @@ impl Error for Mistake {}
 impl Error for Trouble {}
 
 impl From<Mistake> for Trouble {
+    ghost from_gives = { λ m r. r ≡ Mistaken m };
+
     fn from(mistake: Mistake) -> Trouble {
         Trouble::Mistake(mistake)
     }
 }
 
 impl From<Fault> for Trouble {
+    ghost from_gives = { λ x r. r ≡ Refused x };
+
     fn from(fault: Fault) -> Trouble {
         Trouble::Refused(fault)
     }
 }
 
 impl From<AllocError> for Trouble {
+    ghost from_gives = { λ e r. r ≡ OutOfMemory e };
+
     fn from(error: AllocError) -> Trouble {
         Trouble::OutOfMemory(error)
     }
 }
 
 impl<T: Drop> From<AllocFailed<T>> for Trouble {
+    ghost from_gives = { λ _ r. r ≡ OutOfMemory alloc_error };
+
     fn from(failed: AllocFailed<T>) -> Trouble {
         Trouble::OutOfMemory(failed.into())
     }

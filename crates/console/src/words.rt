@@ -53,10 +53,7 @@ impl<'a> Words<'a> {
 
     // No word may be left.
     pub fn end(&self) -> Result<(), Mistake> {
-        match self.rest {
-            None => Ok(()),
-            Some(_) => Err(Mistake::WrongWords),
-        }
+        self.rest.map_or(Ok(()), |_| Err(Mistake::WrongWords))
     }
 
     pub fn number(&mut self) -> Result<u32, Mistake> {
