@@ -24,11 +24,6 @@ pub struct Floor {
     books: Vec<Entry>,
 }
 
-// A free slot: one that holds no byte.
-fn empty_slot() -> Slot {
-    Slot::holding(&[], 0)
-}
-
 // What a call on the hall is answered.
 fn marked(marks: Result<(bool, bool, bool), Fault>) -> Result<Reply, Trouble> {
     Ok(Reply::Marks(Marks(marks?)))
@@ -47,7 +42,7 @@ impl Floor {
             heap,
             hall,
             intake,
-            pool: vec![in heap; empty_slot(); slots]?,
+            pool: vec![in heap; Slot::default(); slots]?,
             books: vec![in heap; Entry::default(); entries]?,
         })
     }
@@ -60,7 +55,7 @@ impl Floor {
         entries: usize,
     ) -> Result<Reply, Trouble> {
         self.intake.resize(batches, Batch::default())?;
-        self.pool.resize(slots, empty_slot())?;
+        self.pool.resize(slots, Slot::default())?;
         self.books.resize(entries, Entry::default())?;
         Ok(Reply::Done)
     }
