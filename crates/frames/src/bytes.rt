@@ -45,7 +45,7 @@ impl FrameBytes {
         }
     }
 
-    // The bytes of a slice, as many as there is room for.
+    // The bytes of a slice, as many as there is room for. No `From`, which would not say that it cuts.
     pub fn of(frame: &[u8]) -> FrameBytes
         ensures { result ≡ packed (take 104 frame.now) }
     {

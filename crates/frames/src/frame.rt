@@ -34,7 +34,8 @@ pub struct Pairs {
     pub each: [Pair; 8],
 }
 
-// The number is that of the committee that a reselect calls up; the entry is all zeros in a reselect.
+// The number is that of the committee that a reselect calls up; the entry is all zeros in a reselect. One struct for the
+// three kinds, since the bytes have every field in each: an enum would write and read most of them three times.
 #[derive(Clone, Copy, PartialEq, Eq, Debug)]
 pub struct Frame {
     pub kind: Kind,

@@ -14,6 +14,7 @@ pub struct Hall<R, P, S> {
 // The calls stay methods of their own, a rule of the project: one generic call would take the tests and the step of each
 // as closures over its station. What they share is in `admit`, `stands` and `record_at`.
 // The good side of a call stays three marks (reselected, proposed, decided): callers take that tuple.
+// Sixteen records beside a table of n stations: a hall takes no heap, and a table is its own.
 // Intake, pool and books stay three parameters: Open and Inject may only read the books that Ring and Deliver write.
 pub mod deliver;
 pub mod inject;

@@ -182,7 +182,7 @@ impl<R: Rule, P: Policy, S: Sealing> Setup<R, P, S> {
         self.settle_on(who, entry, st, pool, books)
     }
 
-    // A reselect frame of the station enters the pool.
+    // A reselect frame of the station enters the pool. Station, batch and pool come one by one, as from `announce`'s caller.
     fn call_up(&self, who: Standing, batch: u16, number: u16, pairs: Pairs, pool: &mut [Slot])
         ensures { pool.new ≡ sent (terms R.Rule P.Policy S.Check self.now) who.i (statement 3 who.i batch number pairs.count (replicate 16 0)) (map plain (listed pairs)) pool.old }
     {

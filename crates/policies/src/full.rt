@@ -118,7 +118,8 @@ impl Full {
         }
     }
 
-    // Committee c as a mask, bit i for station i: number c mod W of the masks in rising order.
+    // Committee c as a mask, bit i for station i: number c mod W of the masks in rising order. A mask and no list of
+    // stations: the rising order is that of these numbers.
     pub fn committee(&self, c: u32) -> u32
         ensures value { result ≡ mask_of self.now.n self.now.t c }
         ensures listed { Listed self.now.n (self.now.t + 1) (masks self.now.n (self.now.t + 1)) }

@@ -14,7 +14,7 @@ use seals::seal::Sealing;
 
 impl<R: Rule, P: Policy, S: Sealing> Hall<R, P, S> {
     // A hall in which every station is idle, with nothing booked. It is never refused, and it owes the law over
-    // every list of calls.
+    // every list of calls. Six parameters: with `Setup` as the one, each caller would build that first.
     pub fn make(
         table: Locked,
         rule: R,
