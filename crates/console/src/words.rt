@@ -52,7 +52,7 @@ impl<'a> Words<'a> {
     }
 
     // No word may be left.
-    pub fn end(&self) -> Result<(), Mistake> {
+    pub(super) fn end(&self) -> Result<(), Mistake> {
         self.rest.map_or(Ok(()), |_| Err(Mistake::WrongWords))
     }
 
