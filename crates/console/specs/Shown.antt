@@ -1,5 +1,5 @@
 -- What the console prints of an answer.
-use Rattle.std.specs.Prelude.{ℕ, ◌+◌, cond, List, [], ◌∷◌, ◌++◌, length, Some, None, Option, codes}
+use Rattle.std.specs.Prelude.{ℕ, Bool, ◌+◌, cond, List, [], ◌∷◌, ◌++◌, length, Some, None, Option, codes}
 use Rattle.std.specs.Fmt.{decimal}
 use Rattle.std.specs.List.{flat_map}
 use Rattle.std.proofs.Math.Utf8.{encode}
@@ -40,17 +40,24 @@ trouble_text (OutOfMemory e) = None
 abbrev pub entry_line : ℕ → Entry → List ℕ
 entry_line k e = codes "entry " ++ decimal k ++ codes " " ++ entry_text e ++ codes "\n"
 
--- a line for each entry, numbered from k on
+-- what each of them prints by its number, from k on
+abbrev pub numbered : {A : Type 0} → (ℕ → A → List ℕ) → ℕ → List A → List ℕ
+numbered text k [] = []
+numbered text k (x ∷ xs) = text k x ++ numbered text (k + 1) xs
+
+-- a line for each entry
 abbrev pub lines_from : ℕ → List Entry → List ℕ
-lines_from k [] = []
-lines_from k (e ∷ es) = entry_line k e ++ lines_from (k + 1) es
+lines_from = numbered entry_line
 
 abbrev pub book_text : Book → List ℕ
 book_text b = lines_from 1 b.0.items
 
--- each behind a blank
+abbrev pub seat_text : ℕ → Bool → List ℕ
+seat_text i sits = cond sits (codes " " ++ decimal i) []
+
+-- the stations that sit, each behind a blank
 abbrev pub seats_text : Seats → List ℕ
-seats_text s = flat_map (λ i. codes " " ++ decimal i) s.0.items
+seats_text s = numbered seat_text 0 s.0
 
 abbrev pub marks_text : Marks → List ℕ
 marks_text m = cond m.0.0 (codes " reselected") [] ++ cond m.0.1 (codes " proposed") [] ++ cond m.0.2 (codes " decided") []

@@ -20,6 +20,7 @@ use seals::keyed::Keyed;
 use seals::seal::Sealing;
 use seals::sheet::Sheet;
 use std::alloc::Global;
+use std::array;
 
 // The most batches or slots of a hall, and the most elements of a buffer, that a script may ask for.
 const MOST_MADE: u32 = 100_000;
@@ -221,7 +222,7 @@ impl Desk {
     fn seats(&self, words: &mut Words) -> Result<Reply, Trouble> {
         let c = words.last_number()?;
         let policy = self.policy.ok_or(Mistake::NoPolicy)?;
-        let seated = (0..16).filter(|i| policy.seated(c, *i)).collect(self.heap)?;
+        let seated = array::from_fn(|i| policy.seated(c, i as u32));
         Ok(Reply::Seats(Seats(seated)))
     }
 

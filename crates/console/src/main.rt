@@ -3,11 +3,13 @@
 
 mod desk;
 mod floor;
+mod input;
 mod reply;
 mod trouble;
 mod words;
 
 use desk::Desk;
+use input::Input;
 use reply::Reply;
 use std::io;
 use std::io::{BufRead, BufReader, BufWriter, Read, Stdin, Stdout, Write};
@@ -21,7 +23,7 @@ const PIECE: usize = 65_536;
 
 // The next line without its line feed; of one too long, one byte more than is shown is kept.
 fn next_line<'a>(
-    input: &mut BufReader<Stdin>,
+    input: &mut BufReader<Input<Stdin>>,
     line: &'a mut Vec<u8>,
 ) -> io::Result<Option<&'a [u8]>> {
     line.clear();
@@ -61,7 +63,7 @@ fn main(rt: HostRuntime) -> io::Result<()> {
     let heap = rt.alloc();
     let mut desk = Desk::new(heap);
     let mut line = Vec::new(heap);
-    let mut input = BufReader::with_capacity(heap, PIECE, rt.stdin())?;
+    let mut input = BufReader::with_capacity(heap, PIECE, Input::new(rt.stdin()))?;
     let mut out = BufWriter::new(heap, rt.stdout())?;
     // counted, since no measure tells that an input ends; `split` would keep a line of any length
     for _ in 0..u64::MAX {

@@ -27,9 +27,9 @@ pub enum Reply {
 #[derive(Drop)]
 pub struct Book(pub Vec<Entry>);
 
-// The stations of a committee.
-#[derive(Drop)]
-pub struct Seats(pub Vec<u32>);
+// Which stations sit in a committee.
+#[derive(Clone, Copy)]
+pub struct Seats(pub [bool; 16]);
 
 // What a call did: reselected, proposed, decided.
 #[derive(Clone, Copy)]
@@ -78,8 +78,10 @@ impl fmt::Display for Seats {
     ghost output = { λ s. Some (seats_text s) };
 
     fn fmt<W: fmt::Write>(&self, f: &mut fmt::Formatter<W>) -> fmt::Result {
-        for i in &self.0 {
-            write!(f, " {i}")?;
+        for (i, sits) in self.0.iter().enumerate() {
+            if *sits {
+                write!(f, " {i}")?;
+            }
         }
         Ok(())
     }
