@@ -153,22 +153,29 @@ impl<R: Rule, P: Policy, S: Sealing> Setup<R, P, S> {
         self.kind_ready(st, frame)
     }
 
-    pub(crate) fn deliver_ready(&self, st: &Station, f: u32, pool: &[Slot]) -> Result<Frame, Fault>
+    // `read` is what came of decoding frame f, and is judged in its turn.
+    pub(crate) fn deliver_ready(
+        &self,
+        st: &Station,
+        f: u32,
+        read: Result<Frame, Fault>,
+        pool: &[Slot],
+    ) -> Result<Frame, Fault>
+        requires of_f { read ≡ decoded self.now.table.n self.now.table.t self.now.batches (frame_at pool.now f) }
+        requires says { States self.now.table.n self.now.table.t self.now.batches (frame_at pool.now f) }
         ensures is { result ≡ deliver_tests (terms R.Rule P.Policy S.Check self.now) st.now f pool.now }
         ensures says { States self.now.table.n self.now.table.t self.now.batches (frame_at pool.now f) }
     {
-        let bytes = frame_in(pool, f);
-        let decoded = self.decode(bytes);
         ensure(is_lawful(st.work), Refusal::Idle)?;
-        ensure(!bytes.is_empty(), Refusal::NoFrame)?;
+        ensure(!frame_in(pool, f).is_empty(), Refusal::NoFrame)?;
         roomy(pool)?;
-        let frame = decoded?;
+        let frame = read?;
         self.frame_ready(st, &frame)?;
         Ok(frame)
     }
 
     // The frame that some bytes are; what it states is what they begin with.
-    fn decode(&self, bytes: &[u8]) -> Result<Frame, Fault>
+    pub(crate) fn decode(&self, bytes: &[u8]) -> Result<Frame, Fault>
         ensures is { result ≡ decoded self.now.table.n self.now.table.t self.now.batches bytes.now }
         ensures says { States self.now.table.n self.now.table.t self.now.batches bytes.now }
     {
