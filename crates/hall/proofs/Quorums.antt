@@ -16,14 +16,14 @@ use Rattle.protocol.proofs.Fields.{held_pairs}
 abbrev quorum_in : ℕ → List (ℕ × ℕ) → Option Pairs
 quorum_in size ps = cond (leb size (length ps)) (Some (lowest_of size ps)) None
 
-found : (size : ℕ) (ps : List (ℕ × ℕ)) (pairs : Pairs) → Some pairs ≡ quorum_in size ps → (leb size (length ps) ≡ true) × (pairs ≡ lowest_of size ps)
+pub found : (size : ℕ) (ps : List (ℕ × ℕ)) (pairs : Pairs) → Some pairs ≡ quorum_in size ps → (leb size (length ps) ≡ true) × (pairs ≡ lowest_of size ps)
 found size ps pairs e = go (leb size (length ps)) e
   where
     go : (b : Bool) → Some pairs ≡ cond b (Some (lowest_of size ps)) None → (b ≡ true) × (pairs ≡ lowest_of size ps)
     go true h = (refl, cc)
     go false h = let z : ◌≡◌ {A = ℕ} 0 1 = cc in let w : ⊥ = omega arith in absurd w
 
-missed : (size : ℕ) (ps : List (ℕ × ℕ)) → None ≡ quorum_in size ps → leb size (length ps) ≡ false
+pub missed : (size : ℕ) (ps : List (ℕ × ℕ)) → None ≡ quorum_in size ps → leb size (length ps) ≡ false
 missed size ps e = go (leb size (length ps)) e
   where
     go : (b : Bool) → None ≡ cond b (Some (lowest_of size ps)) None → b ≡ false
@@ -31,7 +31,7 @@ missed size ps e = go (leb size (length ps)) e
     go false h = refl
 
 -- its pairs are the lowest of those who back the entry
-lowest_pairs : (size : ℕ) (ps : List (ℕ × ℕ)) → size ≤ 8 → size ≤ length ps → map plain (listed (lowest_of size ps)) ≡ take size ps
+pub lowest_pairs : (size : ℕ) (ps : List (ℕ × ℕ)) → size ≤ 8 → size ≤ length ps → map plain (listed (lowest_of size ps)) ≡ take size ps
 lowest_pairs size ps few enough = held_pairs size (take size ps) (omega (arith, length-take size ps)) few
 
 -- by the numbers that the code has at hand
