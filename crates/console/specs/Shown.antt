@@ -40,7 +40,7 @@ trouble_text (OutOfMemory e) = None
 abbrev pub entry_line : ℕ → Entry → List ℕ
 entry_line k e = codes "entry " ++ decimal k ++ codes " " ++ entry_text e ++ codes "\n"
 
--- what each of them prints by its number, from k on
+-- what each item prints by its number, the first by k
 abbrev pub numbered : {A : Type 0} → (ℕ → A → List ℕ) → ℕ → List A → List ℕ
 numbered text k [] = []
 numbered text k (x ∷ xs) = text k x ++ numbered text (k + 1) xs

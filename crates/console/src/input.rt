@@ -1,5 +1,5 @@
 // Standard input, which stays at its end.
-ghost use Rattle.std.specs.Prelude.{◌≡◌, ◌<◌, length, Ok, IfOk, true, None};
+ghost use Rattle.std.specs.Prelude.{◌≡◌, ◌<◌, length, Ok, IfOk, true, false, None};
 ghost use Rattle.std.specs.Io.{ReadsAtMost};
 ghost use Rattle.std.specs.Io.KnownBytes.{ReadConsumes};
 
@@ -14,7 +14,9 @@ pub struct Input<R> {
 }
 
 impl<R: Read> Input<R> {
-    pub fn new(from: R) -> Input<R> {
+    pub fn new(from: R) -> Input<R>
+        ensures { result.ended ≡ false }
+    {
         Input { from, ended: false }
     }
 }
@@ -24,6 +26,7 @@ impl<R: Read> Read for Input<R> {
         ensures bound { ReadsAtMost result buf.new }
         ensures bytes { ReadConsumes None None result buf.new }
         ensures stays { self.old.ended ≡ true → result ≡ Ok 0 }
+        ensures kept { self.old.ended ≡ true → self.new ≡ self.old }
         ensures ends { IfOk result (λ n. n ≡ 0 → 0 < length buf.old → self.new.ended ≡ true) }
     {
         if self.ended {
